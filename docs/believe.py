@@ -159,14 +159,14 @@ def first_sentence(note):
 
 # ---- the page
 
-HEADLINE = ("JobRows", "Explained", "Headline", "Searching", "Gain", "Simulating", "Cascades", "States", "Loops", "LoopChecks", "Proposers", "OneAnswer", "Completeness", "Accepted", "Exact")
+HEADLINE = ("JobRows", "Headline", "Checking", "Searching", "Gain", "Simulating", "Cascades", "States", "Loops", "Proposers", "OneAnswer", "Completeness", "Accepted", "Exact")
 LONG = 30
 PAGE = (
     ("The call", "What `run` says of an answer, whatever the arguments, the files and the sink.",
-     "IsDone requested dsv_command/Table:Request IsAnswered Outcome IsJobRow IsDoneBy HaveTexts AreUnread HasEvidence BecomeJobWords AreWordless IsTaskDone "
+     "IsDone dsv_command:request_of dsv_command/Table:Request IsAnswered Outcome IsJobRow IsDoneBy HaveTexts AreUnread HasEvidence BecomeJobWords AreWordless IsTaskDone "
      "IsOfDecision IsUnread CameOf FilesSeen"),
     ("The file", "What it means that a file's bytes are a controller, and what the controller is in words.",
-     "longest_file IsAccepted IsTextOf IsFaultOf ControllerView BecomesWords QuantisedView"),
+     "longest_file IsControllerOf IsTextOf IsFaultOf ControllerView BecomesWords QuantisedView"),
     ("Overflow, limit cycles, simulation", "What the answers on runs say, of a subject: a controller, a cascade or a state-space "
      "controller.",
      "SubjectView Behaviour behaviour_of of_controller equations_of dsv_system:rows Breaks Cycles Happens NeverHappens IsTrace IsCycle GaveUp IsTooLarge IsFormulaOf "
@@ -177,14 +177,14 @@ PAGE = (
      "AreJudged IsStableSection AreTabled IsOfPoles"),
     ("State-space controllers", "What the answers on a state-space controller say.",
      "IsStatesFileOf IsStateController StateFileView IsStateText IsStatesUnread BecomesStates StateView "
-     "state_space_of of_states ShowsStateFall FallsAlongStates IsStateLoss state_check IsStateFinding IsSystemFinding IsSystemPolynomial IsSystemShown IsSaid SaysStates"),
+     "state_space_of of_states ShowsStateFall FallsAlongStates IsStateLoss state_check IsStateFinding IsSystemFinding IsSystemPolynomial IsSystemShown IsSaid IsSaidOf"),
     ("Ellipsoids", "What the answers on ellipsoids say.",
      "IsOffer ellipsoid_in IsUnreadOffer IsOfOffer IsOfSoughtEllipsoid ShowsEllipsoid dsv_ellipsoid:IsGood "
      "dsv_ellipsoid:NeverBreaks StaysKept ellipsoid_refusal greatest_disturbance step_form dsv_ellipsoid:first_form sample_intervals"),
     ("Loops with their plants", "What the answers on the loop of a controller with its plant say, and what the check of its certificate.",
-     "IsPlantFileOf IsPlantOf IsPlantText PlantView IsPlantUnread IsOfLoop dsv_loop:loop_of dsv_table:IsFinding "
+     "IsPlantFileOf IsPlantOf IsPlantText PlantView IsPlantFault IsOfLoop dsv_loop:loop_of dsv_table:IsFinding "
      "dsv_table:verdict_of IsShown HasFallingForm HasKeptAwayForm AreBounds IsRootSize HasFallAtRate HasKeptAwayAtRate "
-     "IsOfLoopCertificate IsLoopChecked IsLoopShownOf LoopHas HasFallingLoop SaysLoop "),
+     "IsOfLoopCertificate IsLoopChecked IsLoopShownOf LoopHas HasFallingLoop "),
     ("Stability, minimum phase, timing", "What the answers on polynomials and on time say.",
      "tested_of ShowsFall StrictlyFallsAlong StrictlyFalls ShowsKeptAway IsKeptAwayAlong IsKeptAway "
      "ShowsNoForm closed_form_of jury_of IsJuryShown ShowsTable WantsSchurCohn IsTimingOf IsOnTime"),

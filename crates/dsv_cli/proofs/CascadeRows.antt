@@ -1,10 +1,9 @@
--- The rows of jobs for cascades: what each stage gives, and what follows of it.
+-- Why controllers become no cascade, and the forms of sections.
 use Rattle.std.proofs.Common.{◌≡◌, ◌<◌, ◌≤◌, ◌+◌, ℕ, suc, List, [], ◌∷◌, length, take, get_or, refl, arith}
-use Rattle.std.specs.Prelude.{true, false, Ok, Err, ℤ}
+use Rattle.std.specs.Prelude.{Ok, Err, ℤ}
 use Rattle.std.specs.List.{All}
 use Rattle.std.proofs.lemmas.List.Elements.{All-nil, All-cons}
 use Rattle.std.proofs.lemmas.Option.{slice_get_read}
-use Rattle.dsv_base.specs.Seen.{FilesSeen}
 use Rattle.dsv_names.specs.declared.design.Design.{Design}
 use Rattle.dsv_reader.specs.Controllers.{ControllerView}
 use Rattle.dsv_quantiser.specs.QuantisedView.{QuantisedView}
@@ -12,63 +11,28 @@ use Rattle.dsv_quantiser.specs.Modes.{BecomesWords}
 use Rattle.dsv_quantiser.specs.declared.refusal.QuantRefusal.{QuantRefusal}
 use Rattle.dsv_forms.specs.declared.offers.Form.{Form}
 use Rattle.dsv_lyapunov.specs.Answers.{IsStable, IsKeptAwayFrom}
-use Rattle.dsv_cascade.specs.Cascades.{CascadeView}
 use Rattle.dsv_cascade.specs.Stability.{AreStable, AreJudged}
 use Rattle.dsv_cascade.specs.declared.stability.CascadeForms.{CascadeForms}
 use Rattle.dsv_cascade.specs.declared.stability.CascadeForms.TheVariants as forms
 use Rattle.dsv_cascade.specs.declared.stability.SectionFault.TheVariants as fault
 use Rattle.dsv_cascade.specs.declared.stability.SectionOffer.{SectionOffer}
-use Rattle.dsv_command.specs.Cascades.{CascadeTask, decides_stability, searches_overflow, measures_series, simulates_series, AskedCascade}
 use Rattle.dsv_report.specs.Printing.{SectionHasPlaces, FormsHavePlaces}
-use Rattle.dsv_report.specs.Stops.{Outcome}
 use Rattle.dsv_report.specs.declared.stop.Stop.{Stop}
 use Rattle.dsv_report.specs.declared.stop.Stop.TheVariants as stop
-use Rattle.dsv_cli.specs.Cascades.{BecomeWords, IsLaterRefused, IsNoCascade, IsCascadeOf, IsOfSeries, IsCascadeRow}
+use Rattle.dsv_report.specs.declared.stop.WhichFile.TheVariants as file
+use Rattle.dsv_cli.specs.Cascades.{BecomeWords, IsLaterRefused, IsNoCascade}
 
 -- ---- controllers that become no cascade
 pub later_refused : (design : Design) (cs : List ControllerView) (i section : ℕ) (c : ControllerView) (before : List QuantisedView) (r : QuantRefusal) (why : Stop) → section ≡ i + 1 → i < length cs → c ≡ get_or cs i c
-    → BecomeWords design (take i cs) before → why ≡ stop.SectionQuant section r → BecomesWords c design (Err r) → IsLaterRefused design cs why
+    → BecomeWords design (take i cs) before → why ≡ stop.QuantRefused (file.Section section) r → BecomesWords c design (Err r) → IsLaterRefused design cs why
 later_refused design cs i section c before r why n l e h is refused =
     let m : section ≡ suc i = omega arith in
     rw is (i, c, m, slice_get_read cs (length cs) i c refl l e, before, h, refused)
 
 pub no_later : (design : Design) (first : ControllerView) (later : List ControllerView) (q : QuantisedView) (why : Stop) → BecomesWords first design (Ok q) → IsLaterRefused design later why → IsNoCascade design first later why
-no_later design first later q (stop.SectionQuant section r) w h = (q, w, h)
+no_later design first later q (stop.QuantRefused (file.Section section) r) w h = (q, w, h)
 no_later design first later q stop.NoMemory w h = (q, w, tt)
 no_later design first later q why w h = absurd h
-
--- ---- rows
-
--- the stops that a task may come to
-abbrev IsTaskStop : Stop → Type 0
-IsTaskStop (stop.InputRange index value) = Unit {0}
-IsTaskStop (stop.JobSize size) = Unit {0}
-IsTaskStop stop.NoMemory = Unit {0}
-IsTaskStop other = ⊥
-
-task_stop : (task : CascadeTask) (c : CascadeView) (why : Stop) → IsOfSeries task c (Err why) → IsTaskStop why
-task_stop (decides_stability false) c stop.NoMemory h = tt
-task_stop (decides_stability false) c why h = absurd h
-task_stop (decides_stability true) c stop.NoMemory h = tt
-task_stop (decides_stability true) c why h = absurd h
-task_stop (searches_overflow samples conflicts) c (stop.JobSize size) h = tt
-task_stop (searches_overflow samples conflicts) c stop.NoMemory h = tt
-task_stop (searches_overflow samples conflicts) c why h = absurd h
-task_stop measures_series c stop.NoMemory h = tt
-task_stop measures_series c why h = absurd h
-task_stop (simulates_series inputs) c (stop.InputRange index value) h = tt
-task_stop (simulates_series inputs) c stop.NoMemory h = tt
-task_stop (simulates_series inputs) c why h = absurd h
-
-stop_row : (old new : FilesSeen) (asked : AskedCascade) (c : CascadeView) (why : Stop) → IsCascadeOf old asked.file asked.later asked.design c → IsOfSeries asked.task c (Err why) → IsTaskStop why → IsCascadeRow old new asked (Err why)
-stop_row old new asked c (stop.InputRange index value) k h t = (c, k, h)
-stop_row old new asked c (stop.JobSize size) k h t = (c, k, h)
-stop_row old new asked c stop.NoMemory k h t = tt
-stop_row old new asked c why k h t = absurd t
-
-pub row_of_task : (old new : FilesSeen) (asked : AskedCascade) (c : CascadeView) (found : Outcome) → IsCascadeOf old asked.file asked.later asked.design c → IsOfSeries asked.task c found → IsCascadeRow old new asked found
-row_of_task old new asked c (Ok found) k h = (c, k, h)
-row_of_task old new asked c (Err why) k h = stop_row old new asked c why k h (task_stop asked.task c why h)
 
 -- ---- forms
 stable_places : (poly : List ℤ) (form fall : Form) → IsStable poly form fall → (form.d ≤ 8) × (fall.d ≤ 8)

@@ -1,15 +1,12 @@
--- The certificate of an answer passes its check for the words that the job's controller becomes.
-use Rattle.std.proofs.Common.{◌≡◌, ◌∙◌, sym, ap, subst, refl, ℕ, ◌≤◌, Bool, true, false, List, length, if◌then◌else◌, arith}
+-- The certificate of an answer passes its check for what it is of.
+use Rattle.std.proofs.Common.{◌≡◌, ◌∙◌, sym, subst, refl, ℕ, ◌≤◌, Bool, true, List, length, if◌then◌else◌, arith}
 use Rattle.std.specs.Prelude.{Option, Some, None, Result, Ok}
 use Rattle.std.proofs.Math.IntN.{ℤ}
-use Rattle.dsv_base.specs.Seen.{FilesSeen}
 use Rattle.dsv_names.specs.declared.property.Property.TheVariants.{OfRuns, OfRoots}
 use Rattle.dsv_names.specs.declared.property.RunProperty.{RunProperty}
 use Rattle.dsv_names.specs.declared.property.RunProperty.TheVariants.{Overflow}
 use Rattle.dsv_names.specs.declared.property.RootProperty.{RootProperty}
-use Rattle.dsv_reader.proofs.TextLaws.{one_design}
 use Rattle.dsv_quantiser.specs.QuantisedView.{QuantisedView}
-use Rattle.dsv_quantiser.specs.declared.refusal.QuantRefusal.{QuantRefusal}
 use Rattle.dsv_forms.specs.declared.offers.Form.{Form}
 use Rattle.dsv_forms.specs.declared.offers.Falls.{Falls}
 use Rattle.dsv_hints.specs.declared.step.Step.{Step}
@@ -39,9 +36,7 @@ use Rattle.dsv_table.specs.declared.verdict.TableVerdict.{TableVerdict}
 use Rattle.dsv_table.specs.declared.verdict.TableVerdict.TheVariants as table
 use Rattle.dsv_certcheck.specs.Checks.{format_check, words_check}
 use Rattle.dsv_certcheck.proofs.Passing.{format_passes, hints_pass, invariant_passes, gain_passes, falls_pass, roots_table_passes}
-use Rattle.dsv_command.specs.Jobs.{Task, decides, searches, seeks_set, measures_gain, Asked}
 use Rattle.dsv_names.specs.declared.design.Design.{Design}
-use Rattle.dsv_report.specs.Output.{job_with, certificate_for, certificate_of, offer_in}
 use Rattle.dsv_report.specs.declared.answers.Answer.{Answer}
 use Rattle.dsv_report.specs.declared.answers.Answer.TheVariants as answer
 use Rattle.dsv_report.specs.declared.answers.OutputError.{OutputError}
@@ -49,187 +44,251 @@ use Rattle.dsv_roundoff.specs.declared.offers.RoundoffOffer.{RoundoffOffer}
 use Rattle.dsv_gain.specs.declared.outlook.Gain.{Gain}
 use Rattle.dsv_gain.proofs.Depths.{gains_again, gain_below}
 use Rattle.dsv_realise.specs.Netlists.{net_of}
-use Rattle.dsv_cli.specs.Headline.{HasWords, IsAccepted, IsTested, IsSearch, IsSeeking, IsMeasuring, ShowsFall, ShowsTable, IsRow}
 use Rattle.dsv_cli.specs.Gain.{most_gain_samples, IsGainOf, IsErrorOf}
 use Rattle.dsv_bounded.specs.RunAnswers.{NeverHappens}
 use Rattle.dsv_cli.specs.Sets.{KeepsTo}
 use Rattle.dsv_cli.proofs.OutputErrors.{offer_passes, offer_lawful}
-use Rattle.dsv_cli.proofs.Told.{of_told}
 use Rattle.dsv_realise.specs.Controllers.{of_controller}
-
--- The bytes are the text of a controller, which in the realisation and modes of the certificate's job becomes words for which the certificate passes its check.
-pub record Fits (bytes : List ℕ) (c : Certificate) : Type 0 where
-  pub quantised : QuantisedView
-  pub accepted : IsAccepted (job_of c).design bytes (Ok quantised)
-  pub format : format_check accepted.controller (job_of c).words ≡ Ok tt
-  pub passes : words_check quantised c ≡ Ok tt
+use Rattle.std.specs.Prelude.{option_and_then, Err, [], ◌∷◌}
+use Rattle.dsv_names.specs.declared.property.Property.{Property}
+use Rattle.dsv_names.specs.declared.property.RootProperty.TheVariants.{Stability}
+use Rattle.dsv_reader.specs.Controllers.{ControllerView}
+use Rattle.dsv_reader.specs.Plants.{PlantView}
+use Rattle.dsv_quantiser.specs.Modes.{BecomesWords}
+use Rattle.dsv_loop.specs.Loops.{loop_of}
+use Rattle.dsv_loop.specs.declared.refusal.LoopRefusal.{LoopRefusal}
+use Rattle.dsv_state_file.specs.StateFiles.{StateFileView}
+use Rattle.dsv_state_space.specs.StateView.{StateView}
+use Rattle.dsv_state_space.proofs.StateOffers.{accepted_states_narrow, accepted_states_alone}
+use Rattle.dsv_certfile.specs.Words.{words_for}
+use Rattle.dsv_certfile.specs.declared.job.Size.{Size}
+use Rattle.dsv_certcheck.specs.Checks.{BecomesFor, IsFoundAfter, IsChecked}
+use Rattle.dsv_certcheck.specs.LoopChecks.{words_loop_check, IsLoopFoundAfter, IsLoopChecked}
+use Rattle.dsv_certcheck.specs.StateChecks.{state_check}
+use Rattle.dsv_certcheck.proofs.Passing.{loop_passes, state_form_passes}
+use Rattle.dsv_table.specs.Table as tables
+use Rattle.dsv_command.specs.Table.{controller, states, plant_loop, Task, decides, searches, seeks_set, measures_gain, seeks_form, may_certify}
+use Rattle.dsv_command.specs.declared.kind.Kind.TheVariants as of_kind
+use Rattle.dsv_report.specs.Headings.{property_of}
+use Rattle.dsv_report.specs.Output.{certificate_for, certified_design, certified_size, offer_in}
+use Rattle.dsv_tested.specs.Tested.{side_of, tested_of}
+use Rattle.dsv_cli.specs.Causes.{IsOfProperty}
+use Rattle.dsv_cli.specs.Headline.{ShowsFall, ShowsTable}
+use Rattle.dsv_cli.specs.JobRows.{of_one, of_state_file, with_plant, Evidence, of_words, of_state_words, IsTaskDone}
+use Rattle.dsv_cli.specs.Loops.{IsOfLoop}
 
 -- With its places alone the certificate passes its check and is read back from its text.
-pub record IsAcceptable (bytes : List ℕ) (c : Certificate) : Type 0 where
-  pub fits : Fits bytes (certificate_alone c)
+pub record IsAcceptable (Passes : Certificate → Type 0) (c : Certificate) : Type 0 where
+  pub passes : Passes (certificate_alone c)
   pub lawful : IsLawful (certificate_alone c)
   pub text : certificate_text (certificate_alone c) ≡ certificate_text c
   pub job : job_of (certificate_alone c) ≡ job_of c
 
--- what is said of the words of the file's controller is what its certificates have to say
-pub format_fits : (bytes : List ℕ) (words : CertWords) (design : Design) (o : Result QuantisedView QuantRefusal) → HasWords bytes words → (a : IsAccepted design bytes o) → format_check a.controller words ≡ Ok tt
-format_fits bytes words design o h a =
-    let same : h.controller ≡ a.controller = one_design bytes h.controller a.controller h.accepted.text a.text in
-    subst (λ c. format_check c words ≡ Ok tt) same (subst (λ w. format_check h.controller w ≡ Ok tt) (sym h.words) (format_passes h.controller))
+abbrev pub PassesFor : ControllerView → Certificate → Type 0
+PassesFor d c = IsChecked d c (Ok tt)
 
--- ---- each kind
-abbrev hints_for : Design → CertWords → RunProperty → ℕ → List Step → Certificate
-hints_for design words p samples log = certificate.Hints (job_with design words (OfRuns p) (size.Samples samples)) log
+abbrev pub PassesInLoop : ControllerView → PlantView → Certificate → Type 0
+PassesInLoop d p c = IsLoopChecked d p c (Ok tt)
 
-hints_fit : (bytes : List ℕ) (job : Asked) (words : CertWords) (p : RunProperty) (samples conflicts : ℕ) (quantised : QuantisedView) (log : List Step) → IsSearch job bytes p samples conflicts quantised
-    → NeverHappens p samples conflicts (of_controller quantised) log → HasWords bytes words → IsTyped (hints_for job.design words p samples log) → IsAcceptable bytes (hints_for job.design words p samples log)
-hints_fit bytes job words p samples conflicts quantised log s n h t = record {
-  fits = record { quantised = quantised; accepted = s.accepted; format = format_fits bytes words job.design (Ok quantised) h s.accepted; passes = hints_pass words quantised p samples log t.size n.within n.refuted.accepted };
-  lawful = hints_are_lawful (question_formula p (of_controller quantised) samples) conflicts (job_with job.design words (OfRuns p) (size.Samples samples)) log refl t n.refuted;
-  text = refl;
-  job = refl;
-}
+abbrev pub PassesForStates : StateView → Certificate → Type 0
+PassesForStates s c = state_check s c ≡ Ok tt
 
-abbrev invariant_for : Design → CertWords → Candidate → ThreeLogs → Certificate
-invariant_for design words candidate logs = certificate.Invariant (job_with design words (OfRuns Overflow) size.Unbounded) candidate logs
+abbrev made : Design → CertWords → Property → Size → CertifiedJob
+made design words p s = record { property = p; design = design; words = words; size = s }
 
-invariant_fits : (bytes : List ℕ) (job : Asked) (words : CertWords) (conflicts : ℕ) (quantised : QuantisedView) (candidate : Candidate) (logs : ThreeLogs) → IsSeeking job bytes conflicts quantised
-    → KeepsTo quantised conflicts candidate logs → HasWords bytes words → IsTyped (invariant_for job.design words candidate logs) → IsAcceptable bytes (invariant_for job.design words candidate logs)
-invariant_fits bytes job words conflicts quantised candidate logs s k h t = record {
-  fits = record { quantised = quantised; accepted = s.accepted; format = format_fits bytes words job.design (Ok quantised) h s.accepted; passes = invariant_passes words quantised conflicts candidate logs k.within k.good.0 k.good.1 };
-  lawful = invariant_is_lawful (registers_of quantised.realisation (order quantised)) conflicts (set_formula_of quantised candidate part.Base) (set_formula_of quantised candidate part.Step) (set_formula_of quantised candidate part.Safe)
-      (job_with job.design words (OfRuns Overflow) size.Unbounded) candidate logs refl t k.good.0 (record { of_base = k.good.1.base; of_step = k.good.1.step; of_safe = k.good.1.safe });
-  text = refl;
-  job = refl;
-}
+-- what is said of the words is what the certificates of the controller have to say
+said_format : (d : ControllerView) (words : CertWords) → words ≡ words_for d.int_bits d.frac_bits → format_check d words ≡ Ok tt
+said_format d words e = subst (λ w. format_check d w ≡ Ok tt) (sym e) (format_passes d)
 
-abbrev gain_for : Design → CertWords → ℕ → Option RoundoffOffer → Certificate
-gain_for design words depth offer = certificate.Gain (job_with design words (OfRuns Overflow) size.Unbounded) depth offer
+passes_for : (d : ControllerView) (c : Certificate) (q : QuantisedView) → (job_of c).words ≡ words_for d.int_bits d.frac_bits → BecomesFor d (job_of c) (Ok q) → words_check q c ≡ Ok tt → PassesFor d c
+passes_for d c q said b h = subst (λ r. IsFoundAfter r d c (Ok tt)) (sym (said_format d (job_of c).words said)) (record { quantised = q; becomes = b; checked = h })
 
-gain_fits : (bytes : List ℕ) (job : Asked) (words : CertWords) (quantised : QuantisedView) (gain : Gain) (found : OutputError) → IsMeasuring job bytes quantised → IsGainOf (of_controller quantised) gain → IsErrorOf quantised found
-    → HasWords bytes words → IsTyped (gain_for job.design words gain.depth (offer_in found)) → IsAcceptable bytes (gain_for job.design words gain.depth (offer_in found))
-gain_fits bytes job words quantised gain found s k e h t =
-    let below = gain_below (net_of quantised) quantised.xlo quantised.xhi most_gain_samples gain k.found in
-    let again = gains_again (net_of quantised) quantised.xlo quantised.xhi most_gain_samples gain k.found in
-    let deep : gain.depth ≤ most_gain_depth = omega (arith, below) in
-    record {
-      fits = record { quantised = quantised; accepted = s.accepted; format = format_fits bytes words job.design (Ok quantised) h s.accepted; passes = gain_passes words quantised gain.depth (offer_in found) again.0 deep again.1 (offer_passes words quantised found e) };
-      lawful = gain_is_lawful (job_with job.design words (OfRuns Overflow) size.Unbounded) gain.depth (offer_in found) refl t deep (offer_lawful quantised found e);
-      text = refl;
-      job = refl;
-    }
+passes_in_loop : (d : ControllerView) (p : PlantView) (c : Certificate) (q : QuantisedView) → (job_of c).words ≡ words_for d.int_bits d.frac_bits → BecomesFor d (job_of c) (Ok q) → words_loop_check q d.sample_time p c ≡ Ok tt
+    → PassesInLoop d p c
+passes_in_loop d p c q said b h = subst (λ r. IsLoopFoundAfter r d p c (Ok tt)) (sym (said_format d (job_of c).words said)) (record { quantised = q; becomes = b; checked = h })
 
-abbrev falls_for : Design → CertWords → RootProperty → Falls → Certificate
-falls_for design words p offer = certificate.Falls (job_with design words (OfRoots p) size.NoSize) offer
-
-falls_fit : (bytes : List ℕ) (job : Asked) (words : CertWords) (poly : List ℤ) (offer : Falls) (fall : Form) (t : IsTested job bytes (Ok (tested.Poly poly))) → ShowsFall poly offer fall
-    → HasWords bytes words → IsTyped (falls_for job.design words t.property offer) → IsAcceptable bytes (falls_for job.design words t.property offer)
-falls_fit bytes job words poly offer fall t s h known =
-    let certified = job_with job.design words (OfRoots t.property) size.NoSize in
-    let narrow = accepted_are_narrow poly offer s.accepted in
-    record {
-      fits = record {
-        quantised = t.quantised;
-        accepted = t.accepted;
-        format = format_fits bytes words job.design (Ok t.quantised) h t.accepted;
-        passes = falls_pass words t.quantised t.property poly (offer_alone offer) t.tested (accepted_alone poly offer known.places s.accepted);
-      };
-      lawful = falls_are_lawful certified offer refl known narrow;
-      text = falls_text certified offer known narrow;
-      job = refl;
-    }
-
-abbrev table_for : Design → CertWords → RootProperty → List ℤ → Certificate
-table_for design words p poly = certificate.Table (job_with design words (OfRoots p) size.NoSize) poly
-
-table_fits : (bytes : List ℕ) (job : Asked) (words : CertWords) (found : TableFinding) (t : IsTested job bytes (Ok (tested.Poly found.poly))) → ShowsTable found → found.verdict ≡ table.Inside
-    → HasWords bytes words → IsTyped (table_for job.design words t.property found.poly) → IsAcceptable bytes (table_for job.design words t.property found.poly)
-table_fits bytes job words found t s inside h known =
-    let certified = job_with job.design words (OfRoots t.property) size.NoSize in
-    let few : length found.poly ≤ most_coefficients = omega (arith, s.few) in
-    record {
-      fits = record {
-        quantised = t.quantised;
-        accepted = t.accepted;
-        format = format_fits bytes words job.design (Ok t.quantised) h t.accepted;
-        passes = roots_table_passes words t.quantised t.property found.poly few t.tested (sym s.finding.verdict ∙ inside);
-      };
-      lawful = table_is_lawful certified found.poly refl known s.finding.some few;
-      text = refl;
-      job = refl;
-    }
-
--- ---- from an answer's row
 -- a certificate is wanted of a table whose first numbers are positive alone
-pub wanted_table : (job : CertifiedJob) (v : TableVerdict) (poly : List ℤ) (c : Certificate) → (if is_inside v then Some (certificate.Table job poly) else None) ≡ Some c → (v ≡ table.Inside) × (certificate.Table job poly ≡ c)
+wanted_table : (job : CertifiedJob) (v : TableVerdict) (poly : List ℤ) (c : Certificate) → (if is_inside v then Some (certificate.Table job poly) else None) ≡ Some c → (v ≡ table.Inside) × (certificate.Table job poly ≡ c)
 wanted_table job table.Inside poly c e = (refl, cc)
 wanted_table job (table.NotInside row) poly c e = absurd (cc)
 
--- a job that wants no certificate has none
-some_if_wanted : (b : Bool) (o : Option Certificate) (c : Certificate) → (if b then o else None) ≡ Some c → o ≡ Some c
-some_if_wanted true o c e = e
-some_if_wanted false o c e = cc
+the_same : (c d : Certificate) → Some c ≡ Some d → c ≡ d
+the_same c d e = cc
 
-certificate_of_task : (job : Asked) (words : CertWords) (found : Answer) (c : Certificate) → certificate_of job words found ≡ Some c → certificate_for job.design words job.task found ≡ Some c
-certificate_of_task job words found c e = some_if_wanted job.certified (certificate_for job.design words job.task found) c e
+not_none : (c : Certificate) → None ≡ Some c → ⊥
+not_none c e = cc
 
-one_certificate : (o : Option Certificate) (c d : Certificate) → o ≡ Some c → o ≡ Some d → d ≡ c
-one_certificate o c d h k = cc
+-- ---- of a controller
+module _ (d : ControllerView) (q : QuantisedView) (design : Design) (words : CertWords) (becomes : BecomesWords d design (Ok q)) (said : words ≡ words_for d.int_bits d.frac_bits) where
+  abbrev hints_for : RunProperty → ℕ → List Step → Certificate
+  hints_for p samples log = certificate.Hints (made design words (OfRuns p) (size.Samples samples)) log
 
--- the certificate is the one of the answer to this task
-of_task : (job : Asked) (words : CertWords) (task : Task) (found : Answer) (c d : Certificate) → job.task ≡ task → certificate_for job.design words task found ≡ Some d → certificate_of job words found ≡ Some c → d ≡ c
-of_task job words task found c d t k e =
-    one_certificate (certificate_for job.design words job.task found) c d (certificate_of_task job words found c e) (ap (λ x. certificate_for job.design words x found) t ∙ k)
+  hints_fit : (p : RunProperty) (samples conflicts : ℕ) (log : List Step) → NeverHappens p samples conflicts (of_controller q) log → IsTyped (hints_for p samples log) → IsAcceptable (PassesFor d) (hints_for p samples log)
+  hints_fit p samples conflicts log n t = record {
+    passes = passes_for d (hints_for p samples log) q said becomes (hints_pass words q p samples log t.size n.within n.refuted.accepted);
+    lawful = hints_are_lawful (question_formula p (of_controller q) samples) conflicts (made design words (OfRuns p) (size.Samples samples)) log refl t n.refuted;
+    text = refl;
+    job = refl;
+  }
 
--- the answers that may have a certificate
-abbrev HasCertificate : Answer → Type 0
-HasCertificate (answer.Never log) = Unit {0}
-HasCertificate (answer.Always candidate logs) = Unit {0}
-HasCertificate (answer.InRanges gain error) = Unit {0}
-HasCertificate (answer.Falls poly offer fall) = Unit {0}
-HasCertificate (answer.OfTable found) = Unit {0}
-HasCertificate other = ⊥
+  abbrev invariant_for : Candidate → ThreeLogs → Certificate
+  invariant_for candidate logs = certificate.Invariant (made design words (OfRuns Overflow) size.Unbounded) candidate logs
 
-no_certificate : (c : Certificate) → None ≡ Some c → ⊥
-no_certificate c e = cc
+  invariant_fits : (conflicts : ℕ) (candidate : Candidate) (logs : ThreeLogs) → KeepsTo q conflicts candidate logs → IsTyped (invariant_for candidate logs) → IsAcceptable (PassesFor d) (invariant_for candidate logs)
+  invariant_fits conflicts candidate logs k t = record {
+    passes = passes_for d (invariant_for candidate logs) q said becomes (invariant_passes words q conflicts candidate logs k.within k.good.0 k.good.1);
+    lawful = invariant_is_lawful (registers_of q.realisation (order q)) conflicts (set_formula_of q candidate part.Base) (set_formula_of q candidate part.Step) (set_formula_of q candidate part.Safe)
+        (made design words (OfRuns Overflow) size.Unbounded) candidate logs refl t k.good.0 (record { of_base = k.good.1.base; of_step = k.good.1.step; of_safe = k.good.1.safe });
+    text = refl;
+    job = refl;
+  }
 
-has_certificate : (design : Design) (words : CertWords) (task : Task) (found : Answer) (c : Certificate) → certificate_for design words task found ≡ Some c → HasCertificate found
-has_certificate design words task (answer.Never log) c e = tt
-has_certificate design words task (answer.Always candidate logs) c e = tt
-has_certificate design words task (answer.InRanges gain error) c e = tt
-has_certificate design words task (answer.Falls poly offer fall) c e = tt
-has_certificate design words task (answer.OfTable found) c e = tt
-has_certificate design words (searches p samples conflicts) found c e = no_certificate c e
-has_certificate design words (seeks_set conflicts) found c e = no_certificate c e
-has_certificate design words measures_gain found c e = no_certificate c e
-has_certificate design words (decides p sc) found c e = no_certificate c e
-has_certificate design words task found c e = no_certificate c e
+  abbrev gain_for : ℕ → Option RoundoffOffer → Certificate
+  gain_for depth offer = certificate.Gain (made design words (OfRuns Overflow) size.Unbounded) depth offer
 
-pub certificate_fits : (bytes : List ℕ) (old new : FilesSeen) (job : Asked) (words : CertWords) (found : Answer) (c : Certificate) → IsRow (Some bytes) old new job (Ok found) → HasWords bytes words → certificate_of job words found ≡ Some c → IsTyped c
-    → IsAcceptable bytes c
-certificate_fits bytes old new job words (answer.Never log) c row said e known =
-    let t = of_told _ bytes row.comes_from in
-    let d = hints_for job.design words t.0 t.1 log in
-    let is : d ≡ c = of_task job words (searches t.0 t.1 t.2) (answer.Never log) c d t.4.task refl e in
-    subst (IsAcceptable bytes) is (hints_fit bytes job words t.0 t.1 t.2 t.3 log t.4 t.5 said (subst IsTyped (sym is) known))
-certificate_fits bytes old new job words (answer.Always candidate logs) c row said e known =
-    let t = of_told _ bytes row.comes_from in
-    let d = invariant_for job.design words candidate logs in
-    let is : d ≡ c = of_task job words (seeks_set t.0) (answer.Always candidate logs) c d t.2.task refl e in
-    subst (IsAcceptable bytes) is (invariant_fits bytes job words t.0 t.1 candidate logs t.2 t.3 said (subst IsTyped (sym is) known))
-certificate_fits bytes old new job words (answer.InRanges gain found) c row said e known =
-    let t = of_told _ bytes row.comes_from in
-    let d = gain_for job.design words gain.depth (offer_in found) in
-    let is : d ≡ c = of_task job words measures_gain (answer.InRanges gain found) c d t.1.task refl e in
-    subst (IsAcceptable bytes) is (gain_fits bytes job words t.0 gain found t.1 t.2 t.3 said (subst IsTyped (sym is) known))
-certificate_fits bytes old new job words (answer.Falls poly offer fall) c row said e known =
-    let t = of_told _ bytes row.comes_from in
-    let d = falls_for job.design words t.property offer in
-    let is : d ≡ c = of_task job words (decides t.property t.schur_cohn) (answer.Falls poly offer fall) c d t.task refl e in
-    subst (IsAcceptable bytes) is (falls_fit bytes job words poly offer fall t row.shows said (subst IsTyped (sym is) known))
-certificate_fits bytes old new job words (answer.OfTable found) c row said e known =
-    let t = of_told _ bytes row.comes_from in
-    let written = ap (λ x. certificate_for job.design words x (answer.OfTable found)) (sym t.task) ∙ certificate_of_task job words (answer.OfTable found) c e in
-    let w = wanted_table (job_with job.design words (OfRoots t.property) size.NoSize) found.verdict found.poly c written in
-    subst (IsAcceptable bytes) w.1 (table_fits bytes job words found t row.shows w.0 said (subst IsTyped (sym w.1) known))
-certificate_fits bytes old new job words found c row said e known = absurd (has_certificate job.design words job.task found c (certificate_of_task job words found c e))
+  gain_fits : (gain : Gain) (found : OutputError) → IsGainOf (of_controller q) gain → IsErrorOf q found → IsTyped (gain_for gain.depth (offer_in found)) → IsAcceptable (PassesFor d) (gain_for gain.depth (offer_in found))
+  gain_fits gain found k e t =
+      let below = gain_below (net_of q) q.xlo q.xhi most_gain_samples gain k.found in
+      let again = gains_again (net_of q) q.xlo q.xhi most_gain_samples gain k.found in
+      let deep : gain.depth ≤ most_gain_depth = omega (arith, below) in
+      record {
+        passes = passes_for d (gain_for gain.depth (offer_in found)) q said becomes (gain_passes words q gain.depth (offer_in found) again.0 deep again.1 (offer_passes words q found e));
+        lawful = gain_is_lawful (made design words (OfRuns Overflow) size.Unbounded) gain.depth (offer_in found) refl t deep (offer_lawful q found e);
+        text = refl;
+        job = refl;
+      }
+
+  abbrev falls_for : RootProperty → Falls → Certificate
+  falls_for p offer = certificate.Falls (made design words (OfRoots p) size.NoSize) offer
+
+  falls_fit : (p : RootProperty) (poly : List ℤ) (offer : Falls) (fall : Form) → tested_of q (side_of p) ≡ Ok (tested.Poly poly) → ShowsFall poly offer fall → IsTyped (falls_for p offer) → IsAcceptable (PassesFor d) (falls_for p offer)
+  falls_fit p poly offer fall test s known =
+      let certified = made design words (OfRoots p) size.NoSize in
+      let narrow = accepted_are_narrow poly offer s.accepted in
+      record {
+        passes = passes_for d (falls_for p (offer_alone offer)) q said becomes (falls_pass words q p poly (offer_alone offer) test (accepted_alone poly offer known.places s.accepted));
+        lawful = falls_are_lawful certified offer refl known narrow;
+        text = falls_text certified offer known narrow;
+        job = refl;
+      }
+
+  abbrev table_for : RootProperty → List ℤ → Certificate
+  table_for p poly = certificate.Table (made design words (OfRoots p) size.NoSize) poly
+
+  table_fits : (p : RootProperty) (found : TableFinding) → tested_of q (side_of p) ≡ Ok (tested.Poly found.poly) → ShowsTable found → found.verdict ≡ table.Inside → IsTyped (table_for p found.poly)
+      → IsAcceptable (PassesFor d) (table_for p found.poly)
+  table_fits p found test s inside known =
+      let few : length found.poly ≤ most_coefficients = omega (arith, s.few) in
+      record {
+        passes = passes_for d (table_for p found.poly) q said becomes (roots_table_passes words q p found.poly few test (sym s.finding.verdict ∙ inside));
+        lawful = table_is_lawful (made design words (OfRoots p) size.NoSize) found.poly refl known s.finding.some few;
+        text = refl;
+        job = refl;
+      }
+
+  -- the certificate of an answer to a question of roots
+  roots_fit : (p : RootProperty) (sc : Bool) (found : Answer) (c : Certificate) → IsOfProperty p sc q (Ok found) → certificate_for (made design words (OfRoots p) size.NoSize) found ≡ Some c → IsTyped c → IsAcceptable (PassesFor d) c
+  roots_fit p sc (answer.Falls poly offer fall) c h e known =
+      let is = the_same (falls_for p offer) c e in
+      let test = subst (λ x. tested_of q (side_of p) ≡ Ok (tested.Poly x)) (sym h.decision.0) h.tested in
+      subst (IsAcceptable (PassesFor d)) is (falls_fit p poly offer fall test h.decision.1 (subst IsTyped (sym is) known))
+  roots_fit p sc (answer.OfTable found) c h e known =
+      let w = wanted_table (made design words (OfRoots p) size.NoSize) found.verdict found.poly c e in
+      let test = subst (λ x. tested_of q (side_of p) ≡ Ok (tested.Poly x)) (sym h.decision.0) h.tested in
+      subst (IsAcceptable (PassesFor d)) w.1 (table_fits p found test h.decision.2 w.0 (subst IsTyped (sym w.1) known))
+  roots_fit p sc (answer.KeptAway poly offer fall value) c h e known = absurd (not_none c e)
+  roots_fit p sc (answer.NoForm poly kept verdict) c h e known = absurd (not_none c e)
+  roots_fit p sc answer.NoZeros c h e known = absurd (not_none c e)
+  roots_fit p sc (answer.Wide index) c h e known = absurd (not_none c e)
+  roots_fit p sc found c h e known = absurd h.decision
+
+  pub controller_fits : (file : List ℕ) (task : Task) (evidence : Evidence) (found : Answer) (c : Certificate) → may_certify of_kind.Controller task ≡ true → IsTaskDone task evidence (of_one d) (of_words q) (Ok found)
+      → option_and_then (λ p. certificate_for (made design words p (certified_size (controller file) task)) found) (property_of task) ≡ Some c → IsTyped c → IsAcceptable (PassesFor d) c
+  controller_fits file (searches p samples conflicts) evidence (answer.Never log) c m h e known =
+      let is = the_same (hints_for p samples log) c e in
+      subst (IsAcceptable (PassesFor d)) is (hints_fit p samples conflicts log h (subst IsTyped (sym is) known))
+  controller_fits file (searches p samples conflicts) evidence (answer.Overflow trace) c m h e known = absurd (not_none c e)
+  controller_fits file (searches p samples conflicts) evidence (answer.Cycles cycle) c m h e known = absurd (not_none c e)
+  controller_fits file (searches p samples conflicts) evidence (answer.Spent log) c m h e known = absurd (not_none c e)
+  controller_fits file (searches p samples conflicts) evidence found c m h e known = absurd h
+  controller_fits file (seeks_set conflicts) evidence (answer.Always candidate logs) c m h e known =
+      let is = the_same (invariant_for candidate logs) c e in
+      subst (IsAcceptable (PassesFor d)) is (invariant_fits conflicts candidate logs h (subst IsTyped (sym is) known))
+  controller_fits file (seeks_set conflicts) evidence (answer.NoInvariant kept) c m h e known = absurd (not_none c e)
+  controller_fits file (seeks_set conflicts) evidence found c m h e known = absurd h
+  controller_fits file measures_gain evidence (answer.InRanges gain error) c m h e known =
+      let is = the_same (gain_for gain.depth (offer_in error)) c e in
+      subst (IsAcceptable (PassesFor d)) is (gain_fits gain error h.0 h.1 (subst IsTyped (sym is) known))
+  controller_fits file measures_gain evidence (answer.Overflow trace) c m h e known = absurd (not_none c e)
+  controller_fits file measures_gain evidence (answer.OutOfRange sample value) c m h e known = absurd (not_none c e)
+  controller_fits file measures_gain evidence (answer.TooDeep depth) c m h e known = absurd (not_none c e)
+  controller_fits file measures_gain evidence found c m h e known = absurd h
+  controller_fits file (decides p sc) evidence found c m h e known = roots_fit p sc found c h e known
+  controller_fits file task evidence found c m h e known = absurd (cc)
+
+-- ---- of a loop
+-- the polynomial of a loop that its table decides
+record IsOfPolynomial (came : Result (List ℤ) LoopRefusal) (poly : List ℤ) (v : TableVerdict) : Type 0 where
+  pub came_is : came ≡ Ok poly
+  pub few : length poly ≤ most_coefficients
+  pub some : 1 ≤ length poly
+  pub verdict_is : tables.verdict_of poly ≡ v
+
+decided : (came : Result (List ℤ) LoopRefusal) (found : TableFinding) → IsOfLoop came (Ok (answer.OfTable found)) → length found.poly ≤ most_coefficients → IsOfPolynomial came found.poly found.verdict
+decided (Ok cs) found h few =
+    let same : cs ≡ found.poly = sym h.poly in
+    let short : length cs ≤ most_coefficients = rw h.poly at few in
+    subst (λ ps. IsOfPolynomial (Ok cs) ps found.verdict) same (record { came_is = refl; few = short; some = h.some; verdict_is = sym h.verdict })
+decided (Err why) found h few = absurd h
+
+loop_table_fits : (d : ControllerView) (p : PlantView) (q : QuantisedView) (design : Design) (words : CertWords) (poly : List ℤ) → BecomesWords d design (Ok q) → words ≡ words_for d.int_bits d.frac_bits
+    → IsOfPolynomial (loop_of (q ∷ []) d.sample_time p) poly table.Inside → IsTyped (certificate.Table (made design words (OfRoots Stability) size.OfLoop) poly)
+    → IsAcceptable (PassesInLoop d p) (certificate.Table (made design words (OfRoots Stability) size.OfLoop) poly)
+loop_table_fits d p q design words poly becomes said is known =
+    let certified = made design words (OfRoots Stability) size.OfLoop in
+    record {
+      passes = passes_in_loop d p (certificate.Table certified poly) q said becomes (loop_passes words q d.sample_time p poly is.few is.came_is is.verdict_is);
+      lawful = table_is_lawful certified poly refl known is.some is.few;
+      text = refl;
+      job = refl;
+    }
+
+abbrev IsTabled : Answer → Type 0
+IsTabled (answer.OfTable found) = Unit {0}
+IsTabled other = ⊥
+
+loop_tabled : (came : Result (List ℤ) LoopRefusal) (found : Answer) → IsOfLoop came (Ok found) → IsTabled found
+loop_tabled (Ok poly) (answer.OfTable found) h = tt
+loop_tabled (Ok poly) found h = absurd h
+loop_tabled (Err why) found h = absurd h
+
+pub loop_fits : (d : ControllerView) (p : PlantView) (q : QuantisedView) (design : Design) (words : CertWords) (file plant : List ℕ) (task : Task) (evidence : Evidence) (found : Answer) (c : Certificate) → BecomesWords d design (Ok q)
+    → words ≡ words_for d.int_bits d.frac_bits → may_certify of_kind.Loop task ≡ true → IsTaskDone task evidence (with_plant d p) (of_words q) (Ok found)
+    → option_and_then (λ r. certificate_for (made design words r (certified_size (plant_loop file plant) task)) found) (property_of task) ≡ Some c → IsTyped c → IsAcceptable (PassesInLoop d p) c
+loop_fits d p q design words file plant (decides Stability sc) evidence (answer.OfTable found) c becomes said m h e known =
+    let certified = made design words (OfRoots Stability) size.OfLoop in
+    let w = wanted_table certified found.verdict found.poly c e in
+    subst (IsAcceptable (PassesInLoop d p)) w.1
+    (loop_table_fits d p q design words found.poly becomes said (subst (IsOfPolynomial (loop_of (q ∷ []) d.sample_time p) found.poly) w.0 (decided (loop_of (q ∷ []) d.sample_time p) found h.0 h.1)) (subst IsTyped (sym w.1) known))
+loop_fits d p q design words file plant (decides Stability sc) evidence found c becomes said m h e known = absurd (loop_tabled (loop_of (q ∷ []) d.sample_time p) found h.0)
+loop_fits d p q design words file plant (decides property sc) evidence found c becomes said m h e known = absurd h
+loop_fits d p q design words file plant task evidence found c becomes said m h e known = absurd (cc)
+
+-- ---- of a state-space controller
+pub states_fit : (s : StateView) (t : StateFileView) (design : Design) (words : CertWords) (file : List ℕ) (task : Task) (evidence : Evidence) (found : Answer) (c : Certificate) → may_certify of_kind.States task ≡ true
+    → IsTaskDone task evidence (of_state_file t) (of_state_words s) (Ok found)
+    → option_and_then (λ p. certificate_for (made (certified_design (states file) design) words p (certified_size (states file) task)) found) (property_of task) ≡ Some c → IsTyped c → IsAcceptable (PassesForStates s) c
+states_fit s t design words file seeks_form evidence (answer.StateFalls many offer fall) c m h e known =
+    let job = made (certified_design (states file) design) words (OfRoots Stability) size.NoSize in
+    let is = the_same (certificate.Falls job offer) c e in
+    let narrow = accepted_states_narrow s offer h.accepted in
+    let typed = subst IsTyped (sym is) known in
+    subst (IsAcceptable (PassesForStates s)) is (record {
+      passes = state_form_passes job s (offer_alone offer) refl (accepted_states_alone s offer typed.places h.accepted);
+      lawful = falls_are_lawful job offer refl typed narrow;
+      text = falls_text job offer typed narrow;
+      job = refl;
+    })
+states_fit s t design words file seeks_form evidence answer.NoStateForm c m h e known = absurd (not_none c e)
+states_fit s t design words file seeks_form evidence found c m h e known = absurd h
+states_fit s t design words file task evidence found c m h e known = absurd (cc)

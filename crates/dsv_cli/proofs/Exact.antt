@@ -39,16 +39,18 @@ use Rattle.dsv_command.specs.Table.{states as table_states}
 use Rattle.dsv_report.specs.declared.stop.CertificateFault.TheVariants as fault
 use Rattle.dsv_report.specs.declared.stop.Stop.{Stop}
 use Rattle.dsv_report.specs.declared.stop.Stop.TheVariants as stop
+use Rattle.dsv_report.specs.declared.stop.WhichFile.{WhichFile}
+use Rattle.dsv_report.specs.declared.stop.WhichFile.TheVariants as file
 use Rattle.dsv_report.specs.Stops.{Outcome}
 use Rattle.dsv_cli.specs.Accepted.{HoldsTheSame, AreTheSame, HoldTheSame}
-use Rattle.dsv_cli.specs.Cascades.{IsFileOf, AreControllers, IsSectionUnread, IsLaterUnread, BecomeWords, IsNoCascade}
+use Rattle.dsv_cli.specs.Cascades.{IsFileOf, AreControllers, IsLaterUnread, BecomeWords, IsNoCascade}
 use Rattle.dsv_cli.specs.Checking.{IsUnreadCertificate}
 use Rattle.dsv_cli.specs.Ellipsoids.{IsOffer, IsOfferOf, IsUnreadOffer}
 use Rattle.dsv_cli.specs.Exact.{NamesTheSame, IsToldTheSame, IsLost, RefusalsComeExactly}
 use Rattle.dsv_cli.specs.Headline.{longest_file, longest_certificate, CameOf, IsControllerOf, IsSpelled, IsUnread, IsOfGeneration}
 use Rattle.dsv_cli.specs.JobRows.{JobTexts, of_one, of_sections, of_state_file, with_plant, sections_with_plant, HaveTexts, AreUnread, Evidence, none, certificate, ellipsoid, HasEvidence, IsEvidenceUnread, JobWords, of_words, of_series, of_state_words, BecomeJobWords, IsWordless, AreWordless, LacksEvidence, LacksWords, IsTaskDone, IsDoneBy, IsOfCheck, IsCheckedBy, IsAnswered}
-use Rattle.dsv_cli.specs.LoopChecks.{IsCertificateOf}
-use Rattle.dsv_cli.specs.Loops.{IsPlantOf, IsPlantFileOf, IsPlantUnread}
+use Rattle.dsv_cli.specs.Checking.{IsCertificateOf}
+use Rattle.dsv_cli.specs.Loops.{IsPlantOf, IsPlantFileOf, IsPlantFault}
 use Rattle.dsv_cli.specs.States.{IsStateController, IsStatesFileOf, IsStatesUnread}
 use Rattle.dsv_cli.proofs.ExactTasks.{stopped_by, IsThis, task_exact, check_exact}
 use Rattle.dsv_cli.proofs.OneAnswerTasks.{at_place, before_place}
@@ -89,44 +91,44 @@ told P bytes held e t =
     subst P same t.2
 
 -- ---- each kind of file
-abbrev ControllerComes : List ℕ → Result ControllerView Stop → Type 0
-ControllerComes = Comes longest_file reading stop.FileTooLong stop.FileRefused
+abbrev ControllerComes : WhichFile → List ℕ → Result ControllerView Stop → Type 0
+ControllerComes which = Comes longest_file reading (stop.FileTooLong which) (stop.FileRefused which)
 
-controller_read : (old : FilesSeen) (name bytes : List ℕ) (c : ControllerView) → old.held name ≡ Some bytes → IsFileOf old name c → ControllerComes bytes (Ok c)
-controller_read old name bytes c e h =
+controller_read : (which : WhichFile) (old : FilesSeen) (name bytes : List ℕ) (c : ControllerView) → old.held name ≡ Some bytes → IsFileOf old name c → ControllerComes which bytes (Ok c)
+controller_read which old name bytes c e h =
     let k = told (λ came. IsControllerOf came c) bytes (old.held name) e h in
     (k.short, text_read bytes c k.text)
 
-controller_stopped : (old new : FilesSeen) (name bytes : List ℕ) (why : Stop) → old.held name ≡ Some bytes → IsUnread (old.held name) old new name why → ControllerComes bytes (Err why) ⊎ IsLost (Err why)
-controller_stopped old new name bytes (stop.FileRefused text.NoMemory) e h = absurd h
-controller_stopped old new name bytes (stop.FileRefused r) e h =
-    let k = told (λ came. (length came ≤ longest_file) × IsFaultOf came r) bytes (old.held name) e h.comes_from in
-    inl (inr (r, k.0, k.1, refl))
-controller_stopped old new name bytes stop.FileTooLong e h = inl (inl (told (λ came. longest_file < length came) bytes (old.held name) e h.comes_from, refl))
-controller_stopped old new name bytes (stop.ReadFault which) e h = inr tt
-controller_stopped old new name bytes stop.NoMemory e h = inr tt
-controller_stopped old new name bytes why e h = absurd h
+controller_stopped : (which : WhichFile) (old new : FilesSeen) (name bytes : List ℕ) (why : Stop) → old.held name ≡ Some bytes → IsUnread which IsFaultOf old new name why → ControllerComes which bytes (Err why) ⊎ IsLost (Err why)
+controller_stopped which old new name bytes (stop.FileRefused w text.NoMemory) e h = absurd h
+controller_stopped which old new name bytes (stop.FileRefused w r) e h =
+    let k = told (λ came. (length came ≤ longest_file) × IsFaultOf came r) bytes (old.held name) e h.1 in
+    inl (inr (r, k.0, k.1, ap (λ x. stop.FileRefused x r) h.0))
+controller_stopped which old new name bytes (stop.FileTooLong w) e h = inl (inl (told (λ came. longest_file < length came) bytes (old.held name) e h.1, ap stop.FileTooLong h.0))
+controller_stopped which old new name bytes (stop.ReadFault w) e h = inr tt
+controller_stopped which old new name bytes stop.NoMemory e h = inr tt
+controller_stopped which old new name bytes why e h = absurd h
 
 abbrev PlantComes : List ℕ → Result PlantView Stop → Type 0
-PlantComes = Comes longest_file plant_reading stop.PlantTooLong stop.PlantRefused
+PlantComes = Comes longest_file plant_reading (stop.FileTooLong file.Plant) (stop.FileRefused file.Plant)
 
 plant_read : (old : FilesSeen) (name bytes : List ℕ) (p : PlantView) → old.held name ≡ Some bytes → IsPlantFileOf old name p → PlantComes bytes (Ok p)
 plant_read old name bytes p e h =
     let k = told (λ came. IsPlantOf came p) bytes (old.held name) e h in
     (k.short, plant_text_read bytes p k.text)
 
-plant_stopped : (old new : FilesSeen) (name bytes : List ℕ) (why : Stop) → old.held name ≡ Some bytes → IsPlantUnread old new name why → PlantComes bytes (Err why) ⊎ IsLost (Err why)
-plant_stopped old new name bytes (stop.PlantRefused text.NoMemory) e h = absurd h
-plant_stopped old new name bytes (stop.PlantRefused r) e h =
-    let k = told (λ came. (length came ≤ longest_file) × (plant_reading came ≡ Err r)) bytes (old.held name) e h in
-    inl (inr (r, k.0, k.1, refl))
-plant_stopped old new name bytes stop.PlantTooLong e h = inl (inl (told (λ came. longest_file < length came) bytes (old.held name) e h.0, refl))
-plant_stopped old new name bytes (stop.ReadFault which) e h = inr tt
+plant_stopped : (old new : FilesSeen) (name bytes : List ℕ) (why : Stop) → old.held name ≡ Some bytes → IsUnread file.Plant IsPlantFault old new name why → PlantComes bytes (Err why) ⊎ IsLost (Err why)
+plant_stopped old new name bytes (stop.FileRefused w text.NoMemory) e h = absurd h
+plant_stopped old new name bytes (stop.FileRefused w r) e h =
+    let k = told (λ came. (length came ≤ longest_file) × IsPlantFault came r) bytes (old.held name) e h.1 in
+    inl (inr (r, k.0, k.1, ap (λ x. stop.FileRefused x r) h.0))
+plant_stopped old new name bytes (stop.FileTooLong w) e h = inl (inl (told (λ came. longest_file < length came) bytes (old.held name) e h.1, ap stop.FileTooLong h.0))
+plant_stopped old new name bytes (stop.ReadFault w) e h = inr tt
 plant_stopped old new name bytes stop.NoMemory e h = inr tt
 plant_stopped old new name bytes why e h = absurd h
 
 abbrev StatesCome : List ℕ → Result StateFileView Stop → Type 0
-StatesCome = Comes longest_file state_of stop.FileTooLong stop.StateRefused
+StatesCome = Comes longest_file state_of (stop.FileTooLong file.Controller) stop.StateRefused
 
 states_read : (old : FilesSeen) (name bytes : List ℕ) (c : StateFileView) → old.held name ≡ Some bytes → IsStatesFileOf old name c → StatesCome bytes (Ok c)
 states_read old name bytes c e h =
@@ -137,7 +139,7 @@ states_stopped : (old new : FilesSeen) (name bytes : List ℕ) (why : Stop) → 
 states_stopped old new name bytes (stop.StateRefused r) e h =
     let k = told (λ came. (length came ≤ longest_file) × (state_of came ≡ Err r)) bytes (old.held name) e h in
     inl (inr (r, k.0, k.1, refl))
-states_stopped old new name bytes stop.FileTooLong e h = inl (inl (told (λ came. longest_file < length came) bytes (old.held name) e h.0, refl))
+states_stopped old new name bytes (stop.FileTooLong file.Controller) e h = inl (inl (told (λ came. longest_file < length came) bytes (old.held name) e h.0, refl))
 states_stopped old new name bytes (stop.ReadFault which) e h = inr tt
 states_stopped old new name bytes stop.NoMemory e h = inr tt
 states_stopped old new name bytes why e h = absurd h
@@ -216,37 +218,25 @@ same_back old then_old (plant_loop name plant) same = ((same.0.0, same.0.2, same
 same_back old then_old (cascade name later) same = ((same.0.0, same.0.2, same.0.1), names_same_back old then_old later later same.1)
 same_back old then_old (cascade_loop name later plant) same = ((same.0.0, same.0.2, same.0.1), names_same_back old then_old later later same.1, (same.2.0, same.2.2, same.2.1))
 
-one_controller : (old then_old : FilesSeen) (name : List ℕ) (c d : ControllerView) → HoldsTheSame old name then_old name → IsFileOf old name c → IsFileOf then_old name d → c ≡ d
-one_controller old then_old name c d same h k = read_once (reading same.0) c d (controller_read old name same.0 c same.1 h).1 (controller_read then_old name same.0 d same.2 k).1
+pub one_controller : (old then_old : FilesSeen) (name other : List ℕ) (c d : ControllerView) → HoldsTheSame old name then_old other → IsFileOf old name c → IsFileOf then_old other d → c ≡ d
+one_controller old then_old name other c d same h k = read_once (reading same.0) c d (controller_read file.Controller old name same.0 c same.1 h).1 (controller_read file.Controller then_old other same.0 d same.2 k).1
 
-one_plant : (old then_old : FilesSeen) (name : List ℕ) (p q : PlantView) → HoldsTheSame old name then_old name → IsPlantFileOf old name p → IsPlantFileOf then_old name q → p ≡ q
-one_plant old then_old name p q same h k = read_once (plant_reading same.0) p q (plant_read old name same.0 p same.1 h).1 (plant_read then_old name same.0 q same.2 k).1
+pub one_plant : (old then_old : FilesSeen) (name other : List ℕ) (p q : PlantView) → HoldsTheSame old name then_old other → IsPlantFileOf old name p → IsPlantFileOf then_old other q → p ≡ q
+one_plant old then_old name other p q same h k = read_once (plant_reading same.0) p q (plant_read old name same.0 p same.1 h).1 (plant_read then_old other same.0 q same.2 k).1
 
-one_states : (old then_old : FilesSeen) (name : List ℕ) (c d : StateFileView) → HoldsTheSame old name then_old name → IsStatesFileOf old name c → IsStatesFileOf then_old name d → c ≡ d
-one_states old then_old name c d same h k = read_once (state_of same.0) c d (states_read old name same.0 c same.1 h).1 (states_read then_old name same.0 d same.2 k).1
+pub one_states : (old then_old : FilesSeen) (name other : List ℕ) (c d : StateFileView) → HoldsTheSame old name then_old other → IsStatesFileOf old name c → IsStatesFileOf then_old other d → c ≡ d
+one_states old then_old name other c d same h k = read_once (state_of same.0) c d (states_read old name same.0 c same.1 h).1 (states_read then_old other same.0 d same.2 k).1
+
+pub controller_lost : (which : WhichFile) (old then_old then_new : FilesSeen) (name other : List ℕ) (c : ControllerView) (why : Stop) → HoldsTheSame old name then_old other → IsFileOf old name c → IsUnread which IsFaultOf then_old then_new other why
+    → IsLost (Err why)
+controller_lost which old then_old then_new name other c why same h k =
+    lost_if_read longest_file reading (stop.FileTooLong which) (stop.FileRefused which) same.0 c why (controller_read which old name same.0 c same.1 h) (controller_stopped which then_old then_new other same.0 why same.2 k)
+
+controller_one : (which : WhichFile) (old new then_old then_new : FilesSeen) (name : List ℕ) (v w : Stop) → HoldsTheSame old name then_old name → IsUnread which IsFaultOf old new name v → IsUnread which IsFaultOf then_old then_new name w → AreOne v w
+controller_one which old new then_old then_new name v w same h k =
+    one_if_stopped longest_file reading (stop.FileTooLong which) (stop.FileRefused which) same.0 v w (controller_stopped which old new name same.0 v same.1 h) (controller_stopped which then_old then_new name same.0 w same.2 k)
 
 -- ---- files of later sections
-abbrev SectionComes : ℕ → List ℕ → Result ControllerView Stop → Type 0
-SectionComes n = Comes longest_file reading (stop.SectionTooLong n) (stop.SectionRefused n)
-
-section_stopped : (old new : FilesSeen) (name bytes : List ℕ) (n : ℕ) (why : Stop) → old.held name ≡ Some bytes → IsSectionUnread old new name n why → SectionComes n bytes (Err why) ⊎ IsLost (Err why)
-section_stopped old new name bytes n (stop.SectionRefused m text.NoMemory) e h = absurd h
-section_stopped old new name bytes n (stop.SectionRefused m r) e h =
-    let k = told (λ came. (length came ≤ longest_file) × IsFaultOf came r) bytes (old.held name) e h.1 in
-    inl (inr (r, k.0, k.1, ap (λ x. stop.SectionRefused x r) h.0))
-section_stopped old new name bytes n (stop.SectionTooLong m) e h = inl (inl (told (λ came. longest_file < length came) bytes (old.held name) e h.1, ap stop.SectionTooLong h.0))
-section_stopped old new name bytes n (stop.ReadFault which) e h = inr tt
-section_stopped old new name bytes n stop.NoMemory e h = inr tt
-section_stopped old new name bytes n why e h = absurd h
-
-section_lost : (old then_old then_new : FilesSeen) (name : List ℕ) (n : ℕ) (c : ControllerView) (why : Stop) → HoldsTheSame old name then_old name → IsFileOf old name c → IsSectionUnread then_old then_new name n why → IsLost (Err why)
-section_lost old then_old then_new name n c why same h k =
-    lost_if_read longest_file reading (stop.SectionTooLong n) (stop.SectionRefused n) same.0 c why (controller_read old name same.0 c same.1 h) (section_stopped then_old then_new name same.0 n why same.2 k)
-
-section_one : (old new then_old then_new : FilesSeen) (name : List ℕ) (n : ℕ) (v w : Stop) → HoldsTheSame old name then_old name → IsSectionUnread old new name n v → IsSectionUnread then_old then_new name n w → AreOne v w
-section_one old new then_old then_new name n v w same h k =
-    one_if_stopped longest_file reading (stop.SectionTooLong n) (stop.SectionRefused n) same.0 v w (section_stopped old new name same.0 n v same.1 h) (section_stopped then_old then_new name same.0 n w same.2 k)
-
 name_once : {A : Type 0} → (a b : A) → Some a ≡ Some b → a ≡ b
 name_once a b e = cc
 
@@ -262,11 +252,11 @@ sections_once old then_old [] [] (d ∷ ds) same h k = absurd k
 sections_once old then_old (n ∷ names) [] ds same h k = absurd h
 sections_once old then_old (n ∷ names) (c ∷ cs) [] same h k = absurd k
 sections_once old then_old (n ∷ names) (c ∷ cs) (d ∷ ds) same h k =
-    ap (λ x. x ∷ cs) (one_controller old then_old n c d same.0 h.0 k.0) ∙ ap (λ xs. d ∷ xs) (sections_once old then_old names cs ds same.1 h.1 k.1)
+    ap (λ x. x ∷ cs) (one_controller old then_old n n c d same.0 h.0 k.0) ∙ ap (λ xs. d ∷ xs) (sections_once old then_old names cs ds same.1 h.1 k.1)
 
 -- a later file that is no controller's, and those before it are
 abbrev LaterStop : FilesSeen → FilesSeen → List (List ℕ) → Stop → Type 0
-LaterStop old new names why = (i : ℕ) × (name : List ℕ) × (slice_get names i ≡ Some name) × (before : List ControllerView) × AreControllers old (take i names) before × IsSectionUnread old new name (suc i) why
+LaterStop old new names why = (i : ℕ) × (name : List ℕ) × (slice_get names i ≡ Some name) × (before : List ControllerView) × AreControllers old (take i names) before × IsUnread (file.Section (suc i)) IsFaultOf old new name why
 
 later_stopped : (old new : FilesSeen) (names : List (List ℕ)) (why : Stop) → IsLaterUnread old new names why → LaterStop old new names why ⊎ IsLost (Err why)
 later_stopped old new names stop.NoMemory h = inr tt
@@ -277,25 +267,25 @@ stop_lost : (old then_old then_new : FilesSeen) (names : List (List ℕ)) (cs : 
 stop_lost old then_old then_new names cs why same h (inr k) = k
 stop_lost old then_old then_new names cs why same h (inl (i, name, at, before, controllers, k)) =
     let p = pair_at (IsFileOf old) names cs i name at h in
-    section_lost old then_old then_new name (suc i) p.0 why (same_at old then_old names i name at same) p.1 k
+    controller_lost (file.Section (suc i)) old then_old then_new name name p.0 why (same_at old then_old names i name at same) p.1 k
 
 later_lost : (old then_old then_new : FilesSeen) (names : List (List ℕ)) (cs : List ControllerView) (why : Stop) → AreTheSame old names then_old names → AreControllers old names cs → IsLaterUnread then_old then_new names why → IsLost (Err why)
 later_lost old then_old then_new names cs why same h k = stop_lost old then_old then_new names cs why same h (later_stopped then_old then_new names why k)
 
 stops_one : (old new then_old then_new : FilesSeen) (names : List (List ℕ)) (v w : Stop) (i j : ℕ) (m n : List ℕ) (bs ds : List ControllerView) → AreTheSame old names then_old names
-    → slice_get names i ≡ Some m → AreControllers old (take i names) bs → IsSectionUnread old new m (suc i) v
-    → slice_get names j ≡ Some n → AreControllers then_old (take j names) ds → IsSectionUnread then_old then_new n (suc j) w → (i ≡ j) ⊎ ((i < j) ⊎ (j < i)) → AreOne v w
+    → slice_get names i ≡ Some m → AreControllers old (take i names) bs → IsUnread (file.Section (suc i)) IsFaultOf old new m v
+    → slice_get names j ≡ Some n → AreControllers then_old (take j names) ds → IsUnread (file.Section (suc j)) IsFaultOf then_old then_new n w → (i ≡ j) ⊎ ((i < j) ⊎ (j < i)) → AreOne v w
 stops_one old new then_old then_new names v w i j m n bs ds same at before h there then_before k (inl e) =
     let there_i : slice_get names i ≡ Some n = rw e there in
     let one : m ≡ n = name_once m n (sym at ∙ there_i) in
-    section_one old new then_old then_new n (suc i) v w (same_at old then_old names i n there_i same) (subst (λ x. IsSectionUnread old new x (suc i) v) one h) (subst (λ x. IsSectionUnread then_old then_new n (suc x) w) (sym e) k)
+    controller_one (file.Section (suc i)) old new then_old then_new n v w (same_at old then_old names i n there_i same) (subst (λ x. IsUnread (file.Section (suc i)) IsFaultOf old new x v) one h) (subst (λ x. IsUnread (file.Section (suc x)) IsFaultOf then_old then_new n w) (sym e) k)
 stops_one old new then_old then_new names v w i j m n bs ds same at before h there then_before k (inr (inl l)) =
     let p = pair_before (IsFileOf then_old) names ds i j m at l then_before in
     let s = same_at old then_old names i m at same in
-    inr (inl (section_lost then_old old new m (suc i) p.0 v (s.0, s.2, s.1) p.1 h))
+    inr (inl (controller_lost (file.Section (suc i)) then_old old new m m p.0 v (s.0, s.2, s.1) p.1 h))
 stops_one old new then_old then_new names v w i j m n bs ds same at before h there then_before k (inr (inr l)) =
     let p = pair_before (IsFileOf old) names bs j i n there l before in
-    inr (inr (section_lost old then_old then_new n (suc j) p.0 w (same_at old then_old names j n there same) p.1 k))
+    inr (inr (controller_lost (file.Section (suc j)) old then_old then_new n n p.0 w (same_at old then_old names j n there same) p.1 k))
 
 stop_once : (old new then_old then_new : FilesSeen) (names : List (List ℕ)) (v w : Stop) → AreTheSame old names then_old names → LaterStop old new names v ⊎ IsLost (Err v) → LaterStop then_old then_new names w ⊎ IsLost (Err w) → AreOne v w
 stop_once old new then_old then_new names v w same (inr h) k = inr (inl h)
@@ -307,84 +297,76 @@ later_once : (old new then_old then_new : FilesSeen) (names : List (List ℕ)) (
 later_once old new then_old then_new names v w same h k = stop_once old new then_old then_new names v w same (later_stopped old new names v h) (later_stopped then_old then_new names w k)
 
 pub texts_once : (old then_old : FilesSeen) (files : JobFiles) (t u : JobTexts) → HoldTheSame old files then_old files → HaveTexts old files t → HaveTexts then_old files u → t ≡ u
-texts_once old then_old (controller name) (of_one c) (of_one d) same h k = ap of_one (one_controller old then_old name c d same h k)
+texts_once old then_old (controller name) (of_one c) (of_one d) same h k = ap of_one (one_controller old then_old name name c d same h k)
 texts_once old then_old (controller name) (of_one c) u same h k = absurd k
 texts_once old then_old (controller name) t u same h k = absurd h
-texts_once old then_old (table_states name) (of_state_file c) (of_state_file d) same h k = ap of_state_file (one_states old then_old name c d same h k)
+texts_once old then_old (table_states name) (of_state_file c) (of_state_file d) same h k = ap of_state_file (one_states old then_old name name c d same h k)
 texts_once old then_old (table_states name) (of_state_file c) u same h k = absurd k
 texts_once old then_old (table_states name) t u same h k = absurd h
 texts_once old then_old (plant_loop name plant) (with_plant c p) (with_plant d q) same h k =
-    ap (λ x. with_plant x p) (one_controller old then_old name c d same.0 h.0 k.0) ∙ ap (with_plant d) (one_plant old then_old plant p q same.1 h.1 k.1)
+    ap (λ x. with_plant x p) (one_controller old then_old name name c d same.0 h.0 k.0) ∙ ap (with_plant d) (one_plant old then_old plant plant p q same.1 h.1 k.1)
 texts_once old then_old (plant_loop name plant) (with_plant c p) u same h k = absurd k
 texts_once old then_old (plant_loop name plant) t u same h k = absurd h
 texts_once old then_old (cascade name later) (of_sections c cs) (of_sections d ds) same h k =
-    ap (λ x. of_sections x cs) (one_controller old then_old name c d same.0 h.0 k.0) ∙ ap (of_sections d) (sections_once old then_old later cs ds same.1 h.1 k.1)
+    ap (λ x. of_sections x cs) (one_controller old then_old name name c d same.0 h.0 k.0) ∙ ap (of_sections d) (sections_once old then_old later cs ds same.1 h.1 k.1)
 texts_once old then_old (cascade name later) (of_sections c cs) u same h k = absurd k
 texts_once old then_old (cascade name later) t u same h k = absurd h
 texts_once old then_old (cascade_loop name later plant) (sections_with_plant c cs p) (sections_with_plant d ds q) same h k =
-    ap (λ x. sections_with_plant x cs p) (one_controller old then_old name c d same.0 h.0 k.0) ∙ ap (λ xs. sections_with_plant d xs p) (sections_once old then_old later cs ds same.1 h.1 k.1)
-    ∙ ap (sections_with_plant d ds) (one_plant old then_old plant p q same.2 h.2 k.2)
+    ap (λ x. sections_with_plant x cs p) (one_controller old then_old name name c d same.0 h.0 k.0) ∙ ap (λ xs. sections_with_plant d xs p) (sections_once old then_old later cs ds same.1 h.1 k.1)
+    ∙ ap (sections_with_plant d ds) (one_plant old then_old plant plant p q same.2 h.2 k.2)
 texts_once old then_old (cascade_loop name later plant) (sections_with_plant c cs p) u same h k = absurd k
 texts_once old then_old (cascade_loop name later plant) t u same h k = absurd h
 
-controller_lost : (old then_old then_new : FilesSeen) (name : List ℕ) (c : ControllerView) (why : Stop) → HoldsTheSame old name then_old name → IsFileOf old name c → IsUnread (then_old.held name) then_old then_new name why → IsLost (Err why)
-controller_lost old then_old then_new name c why same h k =
-    lost_if_read longest_file reading stop.FileTooLong stop.FileRefused same.0 c why (controller_read old name same.0 c same.1 h) (controller_stopped then_old then_new name same.0 why same.2 k)
+pub plant_lost : (old then_old then_new : FilesSeen) (name other : List ℕ) (p : PlantView) (why : Stop) → HoldsTheSame old name then_old other → IsPlantFileOf old name p → IsUnread file.Plant IsPlantFault then_old then_new other why → IsLost (Err why)
+plant_lost old then_old then_new name other p why same h k =
+    lost_if_read longest_file plant_reading (stop.FileTooLong file.Plant) (stop.FileRefused file.Plant) same.0 p why (plant_read old name same.0 p same.1 h) (plant_stopped then_old then_new other same.0 why same.2 k)
 
-plant_lost : (old then_old then_new : FilesSeen) (name : List ℕ) (p : PlantView) (why : Stop) → HoldsTheSame old name then_old name → IsPlantFileOf old name p → IsPlantUnread then_old then_new name why → IsLost (Err why)
-plant_lost old then_old then_new name p why same h k =
-    lost_if_read longest_file plant_reading stop.PlantTooLong stop.PlantRefused same.0 p why (plant_read old name same.0 p same.1 h) (plant_stopped then_old then_new name same.0 why same.2 k)
-
-states_lost : (old then_old then_new : FilesSeen) (name : List ℕ) (c : StateFileView) (why : Stop) → HoldsTheSame old name then_old name → IsStatesFileOf old name c → IsStatesUnread then_old then_new name why → IsLost (Err why)
-states_lost old then_old then_new name c why same h k =
-    lost_if_read longest_file state_of stop.FileTooLong stop.StateRefused same.0 c why (states_read old name same.0 c same.1 h) (states_stopped then_old then_new name same.0 why same.2 k)
+pub states_lost : (old then_old then_new : FilesSeen) (name other : List ℕ) (c : StateFileView) (why : Stop) → HoldsTheSame old name then_old other → IsStatesFileOf old name c → IsStatesUnread then_old then_new other why → IsLost (Err why)
+states_lost old then_old then_new name other c why same h k =
+    lost_if_read longest_file state_of (stop.FileTooLong file.Controller) stop.StateRefused same.0 c why (states_read old name same.0 c same.1 h) (states_stopped then_old then_new other same.0 why same.2 k)
 
 -- files that have their texts stop no run
 texts_lost : (old then_old then_new : FilesSeen) (files : JobFiles) (t : JobTexts) (why : Stop) → HoldTheSame old files then_old files → HaveTexts old files t → AreUnread then_old then_new files why → IsLost (Err why)
-texts_lost old then_old then_new (controller name) (of_one c) why same h k = controller_lost old then_old then_new name c why same h k
+texts_lost old then_old then_new (controller name) (of_one c) why same h k = controller_lost file.Controller old then_old then_new name name c why same h k
 texts_lost old then_old then_new (controller name) t why same h k = absurd h
-texts_lost old then_old then_new (table_states name) (of_state_file c) why same h k = states_lost old then_old then_new name c why same h k
+texts_lost old then_old then_new (table_states name) (of_state_file c) why same h k = states_lost old then_old then_new name name c why same h k
 texts_lost old then_old then_new (table_states name) t why same h k = absurd h
-texts_lost old then_old then_new (plant_loop name plant) (with_plant c p) why same h (inl k) = controller_lost old then_old then_new name c why same.0 h.0 k
-texts_lost old then_old then_new (plant_loop name plant) (with_plant c p) why same h (inr k) = plant_lost old then_old then_new plant p why same.1 h.1 k.2
+texts_lost old then_old then_new (plant_loop name plant) (with_plant c p) why same h (inl k) = controller_lost file.Controller old then_old then_new name name c why same.0 h.0 k
+texts_lost old then_old then_new (plant_loop name plant) (with_plant c p) why same h (inr k) = plant_lost old then_old then_new plant plant p why same.1 h.1 k.2
 texts_lost old then_old then_new (plant_loop name plant) t why same h k = absurd h
-texts_lost old then_old then_new (cascade name later) (of_sections c cs) why same h (inl k) = controller_lost old then_old then_new name c why same.0 h.0 k
+texts_lost old then_old then_new (cascade name later) (of_sections c cs) why same h (inl k) = controller_lost file.Controller old then_old then_new name name c why same.0 h.0 k
 texts_lost old then_old then_new (cascade name later) (of_sections c cs) why same h (inr k) = later_lost old then_old then_new later cs why same.1 h.1 k.2
 texts_lost old then_old then_new (cascade name later) t why same h k = absurd h
-texts_lost old then_old then_new (cascade_loop name later plant) (sections_with_plant c cs p) why same h (inl k) = controller_lost old then_old then_new name c why same.0 h.0 k
+texts_lost old then_old then_new (cascade_loop name later plant) (sections_with_plant c cs p) why same h (inl k) = controller_lost file.Controller old then_old then_new name name c why same.0 h.0 k
 texts_lost old then_old then_new (cascade_loop name later plant) (sections_with_plant c cs p) why same h (inr (inl k)) = later_lost old then_old then_new later cs why same.1 h.1 k.2
-texts_lost old then_old then_new (cascade_loop name later plant) (sections_with_plant c cs p) why same h (inr (inr k)) = plant_lost old then_old then_new plant p why same.2 h.2 k.4
+texts_lost old then_old then_new (cascade_loop name later plant) (sections_with_plant c cs p) why same h (inr (inr k)) = plant_lost old then_old then_new plant plant p why same.2 h.2 k.4
 texts_lost old then_old then_new (cascade_loop name later plant) t why same h k = absurd h
 
-controller_one : (old new then_old then_new : FilesSeen) (name : List ℕ) (v w : Stop) → HoldsTheSame old name then_old name → IsUnread (old.held name) old new name v → IsUnread (then_old.held name) then_old then_new name w → AreOne v w
-controller_one old new then_old then_new name v w same h k =
-    one_if_stopped longest_file reading stop.FileTooLong stop.FileRefused same.0 v w (controller_stopped old new name same.0 v same.1 h) (controller_stopped then_old then_new name same.0 w same.2 k)
-
-plant_one : (old new then_old then_new : FilesSeen) (name : List ℕ) (v w : Stop) → HoldsTheSame old name then_old name → IsPlantUnread old new name v → IsPlantUnread then_old then_new name w → AreOne v w
+plant_one : (old new then_old then_new : FilesSeen) (name : List ℕ) (v w : Stop) → HoldsTheSame old name then_old name → IsUnread file.Plant IsPlantFault old new name v → IsUnread file.Plant IsPlantFault then_old then_new name w → AreOne v w
 plant_one old new then_old then_new name v w same h k =
-    one_if_stopped longest_file plant_reading stop.PlantTooLong stop.PlantRefused same.0 v w (plant_stopped old new name same.0 v same.1 h) (plant_stopped then_old then_new name same.0 w same.2 k)
+    one_if_stopped longest_file plant_reading (stop.FileTooLong file.Plant) (stop.FileRefused file.Plant) same.0 v w (plant_stopped old new name same.0 v same.1 h) (plant_stopped then_old then_new name same.0 w same.2 k)
 
 states_one : (old new then_old then_new : FilesSeen) (name : List ℕ) (v w : Stop) → HoldsTheSame old name then_old name → IsStatesUnread old new name v → IsStatesUnread then_old then_new name w → AreOne v w
 states_one old new then_old then_new name v w same h k =
-    one_if_stopped longest_file state_of stop.FileTooLong stop.StateRefused same.0 v w (states_stopped old new name same.0 v same.1 h) (states_stopped then_old then_new name same.0 w same.2 k)
+    one_if_stopped longest_file state_of (stop.FileTooLong file.Controller) stop.StateRefused same.0 v w (states_stopped old new name same.0 v same.1 h) (states_stopped then_old then_new name same.0 w same.2 k)
 
 unread_once : (old new then_old then_new : FilesSeen) (files : JobFiles) (v w : Stop) → HoldTheSame old files then_old files → AreUnread old new files v → AreUnread then_old then_new files w → AreOne v w
-unread_once old new then_old then_new (controller name) v w same h k = controller_one old new then_old then_new name v w same h k
+unread_once old new then_old then_new (controller name) v w same h k = controller_one file.Controller old new then_old then_new name v w same h k
 unread_once old new then_old then_new (table_states name) v w same h k = states_one old new then_old then_new name v w same h k
-unread_once old new then_old then_new (plant_loop name plant) v w same (inl h) (inl k) = controller_one old new then_old then_new name v w same.0 h k
+unread_once old new then_old then_new (plant_loop name plant) v w same (inl h) (inl k) = controller_one file.Controller old new then_old then_new name v w same.0 h k
 unread_once old new then_old then_new (plant_loop name plant) v w same (inl h) (inr k) =
-    inr (inl (controller_lost then_old old new name k.0 v (same.0.0, same.0.2, same.0.1) k.1 h))
-unread_once old new then_old then_new (plant_loop name plant) v w same (inr h) (inl k) = inr (inr (controller_lost old then_old then_new name h.0 w same.0 h.1 k))
+    inr (inl (controller_lost file.Controller then_old old new name name k.0 v (same.0.0, same.0.2, same.0.1) k.1 h))
+unread_once old new then_old then_new (plant_loop name plant) v w same (inr h) (inl k) = inr (inr (controller_lost file.Controller old then_old then_new name name h.0 w same.0 h.1 k))
 unread_once old new then_old then_new (plant_loop name plant) v w same (inr h) (inr k) = plant_one old new then_old then_new plant v w same.1 h.2 k.2
-unread_once old new then_old then_new (cascade name later) v w same (inl h) (inl k) = controller_one old new then_old then_new name v w same.0 h k
-unread_once old new then_old then_new (cascade name later) v w same (inl h) (inr k) = inr (inl (controller_lost then_old old new name k.0 v (same.0.0, same.0.2, same.0.1) k.1 h))
-unread_once old new then_old then_new (cascade name later) v w same (inr h) (inl k) = inr (inr (controller_lost old then_old then_new name h.0 w same.0 h.1 k))
+unread_once old new then_old then_new (cascade name later) v w same (inl h) (inl k) = controller_one file.Controller old new then_old then_new name v w same.0 h k
+unread_once old new then_old then_new (cascade name later) v w same (inl h) (inr k) = inr (inl (controller_lost file.Controller then_old old new name name k.0 v (same.0.0, same.0.2, same.0.1) k.1 h))
+unread_once old new then_old then_new (cascade name later) v w same (inr h) (inl k) = inr (inr (controller_lost file.Controller old then_old then_new name name h.0 w same.0 h.1 k))
 unread_once old new then_old then_new (cascade name later) v w same (inr h) (inr k) = later_once old new then_old then_new later v w same.1 h.2 k.2
-unread_once old new then_old then_new (cascade_loop name later plant) v w same (inl h) (inl k) = controller_one old new then_old then_new name v w same.0 h k
-unread_once old new then_old then_new (cascade_loop name later plant) v w same (inl h) (inr (inl k)) = inr (inl (controller_lost then_old old new name k.0 v (same.0.0, same.0.2, same.0.1) k.1 h))
-unread_once old new then_old then_new (cascade_loop name later plant) v w same (inl h) (inr (inr k)) = inr (inl (controller_lost then_old old new name k.0 v (same.0.0, same.0.2, same.0.1) k.2 h))
-unread_once old new then_old then_new (cascade_loop name later plant) v w same (inr (inl h)) (inl k) = inr (inr (controller_lost old then_old then_new name h.0 w same.0 h.1 k))
-unread_once old new then_old then_new (cascade_loop name later plant) v w same (inr (inr h)) (inl k) = inr (inr (controller_lost old then_old then_new name h.0 w same.0 h.2 k))
+unread_once old new then_old then_new (cascade_loop name later plant) v w same (inl h) (inl k) = controller_one file.Controller old new then_old then_new name v w same.0 h k
+unread_once old new then_old then_new (cascade_loop name later plant) v w same (inl h) (inr (inl k)) = inr (inl (controller_lost file.Controller then_old old new name name k.0 v (same.0.0, same.0.2, same.0.1) k.1 h))
+unread_once old new then_old then_new (cascade_loop name later plant) v w same (inl h) (inr (inr k)) = inr (inl (controller_lost file.Controller then_old old new name name k.0 v (same.0.0, same.0.2, same.0.1) k.2 h))
+unread_once old new then_old then_new (cascade_loop name later plant) v w same (inr (inl h)) (inl k) = inr (inr (controller_lost file.Controller old then_old then_new name name h.0 w same.0 h.1 k))
+unread_once old new then_old then_new (cascade_loop name later plant) v w same (inr (inr h)) (inl k) = inr (inr (controller_lost file.Controller old then_old then_new name name h.0 w same.0 h.2 k))
 unread_once old new then_old then_new (cascade_loop name later plant) v w same (inr (inl h)) (inr (inl k)) = later_once old new then_old then_new later v w same.1 h.2 k.2
 unread_once old new then_old then_new (cascade_loop name later plant) v w same (inr (inl h)) (inr (inr k)) =
     inr (inl (later_lost then_old old new later k.1 v (names_same_back old then_old later later same.1) k.3 h.2))
@@ -392,7 +374,7 @@ unread_once old new then_old then_new (cascade_loop name later plant) v w same (
 unread_once old new then_old then_new (cascade_loop name later plant) v w same (inr (inr h)) (inr (inr k)) = plant_one old new then_old then_new plant v w same.2 h.4 k.4
 
 -- ---- what a task names
-certificate_lost : (old then_old then_new : FilesSeen) (name : List ℕ) (c : Certificate) (why : Stop) → HoldsTheSame old name then_old name → IsCertificateOf old name c → IsUnreadCertificate then_old then_new name why → IsLost (Err why)
+pub certificate_lost : (old then_old then_new : FilesSeen) (name : List ℕ) (c : Certificate) (why : Stop) → HoldsTheSame old name then_old name → IsCertificateOf old name c → IsUnreadCertificate then_old then_new name why → IsLost (Err why)
 certificate_lost old then_old then_new name c why same h k =
     lost_if_read longest_certificate certificate_in (stop.CertificateRefused 0 fault.TooLong) certificate_stop same.0 c why (certificate_read old name same.0 c same.1 h) (certificate_stopped then_old then_new name same.0 why same.2 k)
 
@@ -427,12 +409,12 @@ names_back old then_old task same = tt
 
 -- ---- words
 no_refusal : (design : Design) (c : ControllerView) (q : QuantisedView) (why : Stop) → BecomesWords c design (Ok q) → IsWordless design c why → ⊥
-no_refusal design c q (stop.QuantRefused r) h k = read_or_refused (Ok q) q r refl (become_one c c design (Ok q) (Err r) refl h k)
+no_refusal design c q (stop.QuantRefused file.Controller r) h k = read_or_refused (Ok q) q r refl (become_one c c design (Ok q) (Err r) refl h k)
 no_refusal design c q why h k = absurd k
 
 one_refusal : (design : Design) (c : ControllerView) (v w : Stop) → IsWordless design c v → IsWordless design c w → v ≡ w
-one_refusal design c (stop.QuantRefused r) (stop.QuantRefused s) h k = ap stop.QuantRefused (refused_once (Err r) r s refl (become_one c c design (Err r) (Err s) refl h k))
-one_refusal design c (stop.QuantRefused r) w h k = absurd k
+one_refusal design c (stop.QuantRefused file.Controller r) (stop.QuantRefused file.Controller s) h k = ap (stop.QuantRefused file.Controller) (refused_once (Err r) r s refl (become_one c c design (Err r) (Err s) refl h k))
+one_refusal design c (stop.QuantRefused file.Controller r) w h k = absurd k
 one_refusal design c v w h k = absurd h
 
 states_become : (c : StateFileView) (design : Design) (o p : Result StateView StateQuantRefusal) → BecomesStates c design.rounding design.overflow o → BecomesStates c design.rounding design.overflow p → o ≡ p
@@ -511,10 +493,10 @@ all_or_later design cs qs section r h (i, c, e, at, before, words, k) =
     word_or_not design c p.0 r p.1 k
 
 quants_by : (design : Design) (cs : List ControllerView) (i j : ℕ) (c d : ControllerView) (r s : QuantRefusal) (bs ds : List QuantisedView) → slice_get cs i ≡ Some c → BecomeWords design (take i cs) bs → BecomesWords c design (Err r)
-    → slice_get cs j ≡ Some d → BecomeWords design (take j cs) ds → BecomesWords d design (Err s) → (i ≡ j) ⊎ ((i < j) ⊎ (j < i)) → stop.SectionQuant (suc i) r ≡ stop.SectionQuant (suc j) s
+    → slice_get cs j ≡ Some d → BecomeWords design (take j cs) ds → BecomesWords d design (Err s) → (i ≡ j) ⊎ ((i < j) ⊎ (j < i)) → stop.QuantRefused (file.Section (suc i)) r ≡ stop.QuantRefused (file.Section (suc j)) s
 quants_by design cs i j c d r s bs ds at before h there then_before k (inl e) =
     let one : c ≡ d = name_once c d (sym at ∙ ap (slice_get cs) e ∙ there) in
-    ap (λ x. stop.SectionQuant (suc x) r) e ∙ ap (stop.SectionQuant (suc j)) (one_quant design d r s (subst (λ x. BecomesWords x design (Err r)) one h) k)
+    ap (λ x. stop.QuantRefused (file.Section (suc x)) r) e ∙ ap (stop.QuantRefused (file.Section (suc j))) (one_quant design d r s (subst (λ x. BecomesWords x design (Err r)) one h) k)
 quants_by design cs i j c d r s bs ds at before h there then_before k (inr (inl l)) =
     let p = pair_before (λ x q. BecomesWords x design (Ok q)) cs ds i j c at l then_before in
     absurd (word_or_not design c p.0 r p.1 h)
@@ -522,37 +504,37 @@ quants_by design cs i j c d r s bs ds at before h there then_before k (inr (inr 
     let p = pair_before (λ x q. BecomesWords x design (Ok q)) cs bs j i d there l before in
     absurd (word_or_not design d p.0 s p.1 k)
 
-quants_once : (design : Design) (cs : List ControllerView) (m n : ℕ) (r s : QuantRefusal) → LaterQuant design cs m r → LaterQuant design cs n s → stop.SectionQuant m r ≡ stop.SectionQuant n s
+quants_once : (design : Design) (cs : List ControllerView) (m n : ℕ) (r s : QuantRefusal) → LaterQuant design cs m r → LaterQuant design cs n s → stop.QuantRefused (file.Section m) r ≡ stop.QuantRefused (file.Section n) s
 quants_once design cs m n r s (i, c, e, at, bs, before, h) (j, d, f, there, ds, then_before, k) =
-    ap (λ x. stop.SectionQuant x r) e ∙ quants_by design cs i j c d r s bs ds at before h there then_before k (cases_order i j) ∙ ap (λ x. stop.SectionQuant x s) (sym f)
+    ap (λ x. stop.QuantRefused (file.Section x) r) e ∙ quants_by design cs i j c d r s bs ds at before h there then_before k (cases_order i j) ∙ ap (λ x. stop.QuantRefused (file.Section x) s) (sym f)
 
 cascade_lost : (design : Design) (c : ControllerView) (cs : List ControllerView) (s : CascadeView) (why : Stop) → BecomesWords c design (Ok s.first) → BecomeWords design cs s.later → IsCascade s → IsNoCascade design c cs why → IsLost (Err why)
-cascade_lost design c cs s (stop.QuantRefused r) h hs k n = absurd (word_or_not design c s.first r h n)
+cascade_lost design c cs s (stop.QuantRefused file.Controller r) h hs k n = absurd (word_or_not design c s.first r h n)
 cascade_lost design c cs s (stop.CascadeRefused r) h hs k n =
     absurd (fit_or_not s.first (sections_of s) r k.fit (refused_as design c cs s.first n.0 s.later n.1 r h hs n.2 n.3 n.4))
-cascade_lost design c cs s (stop.SectionQuant m r) h hs k n = absurd (all_or_later design cs s.later m r hs n.2)
+cascade_lost design c cs s (stop.QuantRefused (file.Section m) r) h hs k n = absurd (all_or_later design cs s.later m r hs n.2)
 cascade_lost design c cs s stop.NoMemory h hs k n = tt
 cascade_lost design c cs s why h hs k n = absurd n.2
 
 cascade_once : (design : Design) (c : ControllerView) (cs : List ControllerView) (v w : Stop) → IsNoCascade design c cs v → IsNoCascade design c cs w → AreOne v w
-cascade_once design c cs (stop.QuantRefused r) (stop.QuantRefused s) h k = inl (ap stop.QuantRefused (one_quant design c r s h k))
-cascade_once design c cs (stop.QuantRefused r) (stop.CascadeRefused s) h k = absurd (word_or_not design c k.0 r k.2 h)
-cascade_once design c cs (stop.QuantRefused r) w h k = absurd (word_or_not design c k.0 r k.1 h)
-cascade_once design c cs (stop.CascadeRefused r) (stop.QuantRefused s) h k = absurd (word_or_not design c h.0 s h.2 k)
+cascade_once design c cs (stop.QuantRefused file.Controller r) (stop.QuantRefused file.Controller s) h k = inl (ap (stop.QuantRefused file.Controller) (one_quant design c r s h k))
+cascade_once design c cs (stop.QuantRefused file.Controller r) (stop.CascadeRefused s) h k = absurd (word_or_not design c k.0 r k.2 h)
+cascade_once design c cs (stop.QuantRefused file.Controller r) w h k = absurd (word_or_not design c k.0 r k.1 h)
+cascade_once design c cs (stop.CascadeRefused r) (stop.QuantRefused file.Controller s) h k = absurd (word_or_not design c h.0 s h.2 k)
 cascade_once design c cs (stop.CascadeRefused r) (stop.CascadeRefused s) h k = inl (ap stop.CascadeRefused (refusals_once design c cs r s h k))
-cascade_once design c cs (stop.CascadeRefused r) (stop.SectionQuant n s) h k = absurd (all_or_later design cs h.1 n s h.3 k.2)
+cascade_once design c cs (stop.CascadeRefused r) (stop.QuantRefused (file.Section n) s) h k = absurd (all_or_later design cs h.1 n s h.3 k.2)
 cascade_once design c cs (stop.CascadeRefused r) stop.NoMemory h k = inr (inr tt)
 cascade_once design c cs (stop.CascadeRefused r) w h k = absurd k.2
-cascade_once design c cs (stop.SectionQuant m r) (stop.QuantRefused s) h k = absurd (word_or_not design c h.0 s h.1 k)
-cascade_once design c cs (stop.SectionQuant m r) (stop.CascadeRefused s) h k = absurd (all_or_later design cs k.1 m r k.3 h.2)
-cascade_once design c cs (stop.SectionQuant m r) (stop.SectionQuant n s) h k = inl (quants_once design cs m n r s h.2 k.2)
-cascade_once design c cs (stop.SectionQuant m r) stop.NoMemory h k = inr (inr tt)
-cascade_once design c cs (stop.SectionQuant m r) w h k = absurd k.2
+cascade_once design c cs (stop.QuantRefused (file.Section m) r) (stop.QuantRefused file.Controller s) h k = absurd (word_or_not design c h.0 s h.1 k)
+cascade_once design c cs (stop.QuantRefused (file.Section m) r) (stop.CascadeRefused s) h k = absurd (all_or_later design cs k.1 m r k.3 h.2)
+cascade_once design c cs (stop.QuantRefused (file.Section m) r) (stop.QuantRefused (file.Section n) s) h k = inl (quants_once design cs m n r s h.2 k.2)
+cascade_once design c cs (stop.QuantRefused (file.Section m) r) stop.NoMemory h k = inr (inr tt)
+cascade_once design c cs (stop.QuantRefused (file.Section m) r) w h k = absurd k.2
 cascade_once design c cs stop.NoMemory w h k = inr (inl tt)
 cascade_once design c cs v w h k = absurd h.2
 
 -- ---- the words of texts
-words_lost : (design : Design) (t : JobTexts) (words : JobWords) (why : Stop) → BecomeJobWords design t words → AreWordless design t why → IsLost (Err why)
+pub words_lost : (design : Design) (t : JobTexts) (words : JobWords) (why : Stop) → BecomeJobWords design t words → AreWordless design t why → IsLost (Err why)
 words_lost design (of_one c) (of_words q) why h k = absurd (no_refusal design c q why h k)
 words_lost design (with_plant c p) (of_words q) why h k = absurd (no_refusal design c q why h k)
 words_lost design (of_sections c cs) (of_series s) why h k = cascade_lost design c cs s why h.0 h.1 h.2 k

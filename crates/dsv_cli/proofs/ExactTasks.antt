@@ -39,20 +39,19 @@ use Rattle.dsv_report.specs.declared.answers.OutputError.{OutputError}
 use Rattle.dsv_report.specs.declared.stop.CertificateFault.TheVariants as fault
 use Rattle.dsv_report.specs.declared.stop.Stop.{Stop}
 use Rattle.dsv_report.specs.declared.stop.Stop.TheVariants as stop
+use Rattle.dsv_report.specs.declared.stop.WhichFile.{WhichFile}
+use Rattle.dsv_report.specs.declared.stop.WhichFile.TheVariants as file
 use Rattle.dsv_report.specs.Stops.{Outcome}
 use Rattle.dsv_cli.specs.Causes.{IsDecision, IsOfSets, IsOfTiming}
-use Rattle.dsv_cli.specs.Checking.{stop_of_check, IsOfCertificate}
+use Rattle.dsv_cli.specs.Checking.{stop_of_check, IsOfCertificate, IsOfLoopCertificate, IsRefusedAt}
 use Rattle.dsv_cli.specs.Ellipsoids.{IsOfOffer, IsOfSoughtEllipsoid}
 use Rattle.dsv_cli.specs.Exact.{IsLost}
 use Rattle.dsv_cli.specs.Gain.{IsOfGain}
-use Rattle.dsv_cli.specs.Headline.{IsRefusedAt}
 use Rattle.dsv_cli.specs.JobRows.{JobTexts, of_one, of_sections, of_state_file, with_plant, sections_with_plant, Evidence, certificate, ellipsoid, JobWords, of_words, of_series, of_state_words, subject_of, ErrorIs, IsOfSections, IsOfDecision, IsOfOne, IsOfStatesAlone, IsOfKind, IsTaskDone, IsOfCheck}
-use Rattle.dsv_cli.specs.LoopChecks.{IsOfLoopCertificate}
 use Rattle.dsv_cli.specs.Loops.{IsOfLoop}
 use Rattle.dsv_cli.specs.Searching.{IsOfFormula, IsOfSearch}
 use Rattle.dsv_cli.specs.Simulating.{IsOfRun}
-use Rattle.dsv_cli.specs.StateStages.{IsOfForm}
-use Rattle.dsv_cli.specs.States.{IsOfStateTable}
+use Rattle.dsv_cli.specs.States.{IsOfForm, IsOfStateTable}
 use Rattle.dsv_cli.proofs.OneAnswerTasks.{at_place, one_outside, within_or_large}
 
 abbrev pub stopped_by : Stop → Outcome
@@ -178,7 +177,7 @@ decided_exact p sc texts words why found h kept k = absurd h
 checked_once : {A R : Type 0} → (came : Result A R) (r s : R) → came ≡ Err r → came ≡ Err s → r ≡ s
 checked_once came r s h k = cc
 
-checked_or_not : {A R : Type 0} → (came : Result A R) (v : A) (r : R) → came ≡ Ok v → came ≡ Err r → ⊥
+pub checked_or_not : {A R : Type 0} → (came : Result A R) (v : A) (r : R) → came ≡ Ok v → came ≡ Err r → ⊥
 checked_or_not came v r h k = cc
 
 one_line : (m n : ℕ) (f g : CheckFault) → refusal.Line m f ≡ refusal.Line n g → stopped_by (stop.CertificateRefused m (fault.Check f)) ≡ stopped_by (stop.CertificateRefused n (fault.Check g))
@@ -217,13 +216,49 @@ task_exact (simulates inputs) e texts words why found h kept k = run_exact (subj
 task_exact (decides p sc) e texts words why found h kept k = decided_exact p sc texts words why found h kept k
 task_exact task e texts words why found h kept k = kind_exact task e texts words why found h kept k
 
+-- no task ends by a fault of a read
+no_loop_fault : (came : Result (List ℤ) LoopRefusal) (which : WhichFile) → IsOfLoop came (Err (stop.ReadFault which)) → ⊥
+no_loop_fault (Ok poly) which h = h
+no_loop_fault (Err why) which h = h
+
+no_decision_fault : (p : RootProperty) (sc : Bool) (texts : JobTexts) (words : JobWords) (which : WhichFile) → IsOfDecision (decides p sc) texts words (Err (stop.ReadFault which)) → ⊥
+no_decision_fault p sc (of_one c) (of_words q) which h = h.decision
+no_decision_fault Stability false (of_sections c cs) (of_series s) which h = h
+no_decision_fault Stability true (of_sections c cs) (of_series s) which h = h
+no_decision_fault Stability true (of_state_file c) (of_state_words s) which h = h
+no_decision_fault Stability sc (with_plant c p) (of_words q) which h = no_loop_fault (loop_of (q ∷ []) c.sample_time p) which h.0
+no_decision_fault Stability sc (sections_with_plant c cs p) (of_series s) which h = no_loop_fault (loop_of (sections_of s) c.sample_time p) which h
+no_decision_fault p sc texts words which h = absurd h
+
+no_one_fault : (task : Task) (e : Evidence) (c : ControllerView) (q : QuantisedView) (which : WhichFile) → IsOfOne task e c q (Err (stop.ReadFault which)) → ⊥
+no_one_fault (checks_ellipsoid name) (ellipsoid offer) c q which h = h
+no_one_fault (checks_ellipsoid name) e c q which h = absurd h
+no_one_fault task e c q which h = absurd h
+
+no_alone_fault : (task : Task) (e : Evidence) (s : StateView) (which : WhichFile) → IsOfStatesAlone task e s (Err (stop.ReadFault which)) → ⊥
+no_alone_fault (checks_form name) (certificate c) s which h = h
+no_alone_fault (checks_form name) e s which h = absurd h
+no_alone_fault task e s which h = absurd h
+
+no_kind_fault : (task : Task) (e : Evidence) (texts : JobTexts) (words : JobWords) (which : WhichFile) → IsOfKind task e texts words (Err (stop.ReadFault which)) → ⊥
+no_kind_fault task e (of_one c) (of_words q) which h = no_one_fault task e c q which h
+no_kind_fault task e (of_state_file c) (of_state_words s) which h = no_alone_fault task e s which h
+no_kind_fault task e texts words which h = absurd h
+
+pub no_task_fault : (task : Task) (e : Evidence) (texts : JobTexts) (words : JobWords) (which : WhichFile) → IsTaskDone task e texts words (Err (stop.ReadFault which)) → ⊥
+no_task_fault (searches p n conflicts) e texts words which h = h
+no_task_fault measures_gain e texts words which h = h
+no_task_fault (simulates inputs) e texts words which h = h
+no_task_fault (decides p sc) e texts words which h = no_decision_fault p sc texts words which h
+no_task_fault task e texts words which h = no_kind_fault task e texts words which h
+
 -- ---- checks of certificates
-abbrev NoMemoryFound : Checked → Type 0
+abbrev pub NoMemoryFound : Checked → Type 0
 NoMemoryFound (Err refusal.NoMemory) = Unit {0}
 NoMemoryFound found = ⊥
 
 -- two findings are one, or one is want of memory
-abbrev AreOneFinding : Checked → Checked → Type 0
+abbrev pub AreOneFinding : Checked → Checked → Type 0
 AreOneFinding x y = (x ≡ y) ⊎ (NoMemoryFound x ⊎ NoMemoryFound y)
 
 read_words : (q p : QuantisedView) (came : Result QuantisedView QuantRefusal) → came ≡ Ok q → came ≡ Ok p → q ≡ p
@@ -264,7 +299,7 @@ found_once : (came : Checked) (c : ControllerView) (cert : Certificate) (x y : C
 found_once (Ok z) c cert x y h k = words_one (BecomesFor c (job_of cert)) (λ q. words_check q cert) x y (become_once c cert) (words_found c cert x h) (words_found c cert y k)
 found_once (Err why) c cert x y h k = inl (h ∙ sym k)
 
-loop_found_once : (came : Checked) (c : ControllerView) (plant : PlantView) (cert : Certificate) (x y : Checked) → IsLoopFoundAfter came c plant cert x → IsLoopFoundAfter came c plant cert y → AreOneFinding x y
+pub loop_found_once : (came : Checked) (c : ControllerView) (plant : PlantView) (cert : Certificate) (x y : Checked) → IsLoopFoundAfter came c plant cert x → IsLoopFoundAfter came c plant cert y → AreOneFinding x y
 loop_found_once (Ok z) c plant cert x y h k =
     words_one (BecomesFor c (job_of cert)) (λ q. words_loop_check q c.sample_time plant cert) x y (become_once c cert) (loop_words_found c plant cert x h) (loop_words_found c plant cert y k)
 loop_found_once (Err why) c plant cert x y h k = inl (h ∙ sym k)
@@ -274,10 +309,10 @@ lost_by : (r : CheckRefusal) (v : Stop) → NoMemoryFound (Err r) → v ≡ stop
 lost_by refusal.NoMemory v h e = rw e tt
 lost_by r v h e = absurd h
 
-record Stops (IsIt : Checked → Type 0) (v : Stop) : Type 0 where
-  refusal_of : CheckRefusal
-  found : IsIt (Err refusal_of)
-  stops : v ≡ stop_of_check refusal_of
+pub record Stops (IsIt : Checked → Type 0) (v : Stop) : Type 0 where
+  pub refusal_of : CheckRefusal
+  pub found : IsIt (Err refusal_of)
+  pub stops : v ≡ stop_of_check refusal_of
 
 refusal_once : (r s : CheckRefusal) (came : Checked) → came ≡ Err r → came ≡ Err s → r ≡ s
 refusal_once r s came h k = cc
@@ -293,7 +328,7 @@ stops_by r s v w e f (inl h) = inl (e ∙ ap stop_of_check (refusal_once r s (Er
 stops_by r s v w e f (inr (inl h)) = inr (inl (lost_by r v h e))
 stops_by r s v w e f (inr (inr h)) = inr (inr (lost_by s w h f))
 
-ok_lost : (r : CheckRefusal) (v : Stop) → v ≡ stop_of_check r → AreOneFinding (Err r) (Ok tt) → IsLost (Err v)
+pub ok_lost : (r : CheckRefusal) (v : Stop) → v ≡ stop_of_check r → AreOneFinding (Err r) (Ok tt) → IsLost (Err v)
 ok_lost r v e (inl h) = absurd (refused_or_not r (Err r) refl h)
 ok_lost r v e (inr (inl h)) = lost_by r v h e
 ok_lost r v e (inr (inr h)) = absurd h
@@ -311,9 +346,9 @@ refused_stop c cert line f (inl h) = record { refusal_of = refusal.Line line f; 
 refused_stop c cert line f (inr (e, g, inl (index, h))) = record { refusal_of = refusal.Wide index; found = h; stops = line_stop line f e g }
 refused_stop c cert line f (inr (e, g, inr h)) = record { refusal_of = refusal.NoZeros; found = h; stops = line_stop line f e g }
 
-certificate_stop_of : (c : ControllerView) (cert : Certificate) (why : Stop) → IsOfCertificate c cert (Err why) → Stops (IsChecked c cert) why ⊎ IsLost (Err why)
+pub certificate_stop_of : (c : ControllerView) (cert : Certificate) (why : Stop) → IsOfCertificate c cert (Err why) → Stops (IsChecked c cert) why ⊎ IsLost (Err why)
 certificate_stop_of c cert (stop.CertificateRefused line (fault.Check f)) h = inl (refused_stop c cert line f h)
-certificate_stop_of c cert (stop.QuantRefused r) h = inl (record { refusal_of = refusal.Quant r; found = h; stops = refl })
+certificate_stop_of c cert (stop.QuantRefused file.Controller r) h = inl (record { refusal_of = refusal.Quant r; found = h; stops = refl })
 certificate_stop_of c cert (stop.JobSize m) h = inl (record { refusal_of = refusal.JobSize m; found = h; stops = refl })
 certificate_stop_of c cert stop.NoMemory h = inr tt
 certificate_stop_of c cert why h = absurd h
@@ -324,7 +359,7 @@ one_stop c cert v w (inl h) (inr k) = inr (inr k)
 one_stop c cert v w (inl h) (inl k) =
     stops_by h.refusal_of k.refusal_of v w h.stops k.stops (found_once (format_check c (job_of cert).words) c cert (Err h.refusal_of) (Err k.refusal_of) h.found k.found)
 
-passed_lost : (c : ControllerView) (cert : Certificate) (v : Stop) → Stops (IsChecked c cert) v ⊎ IsLost (Err v) → IsChecked c cert (Ok tt) → IsLost (Err v)
+pub passed_lost : (c : ControllerView) (cert : Certificate) (v : Stop) → Stops (IsChecked c cert) v ⊎ IsLost (Err v) → IsChecked c cert (Ok tt) → IsLost (Err v)
 passed_lost c cert v (inr h) k = h
 passed_lost c cert v (inl h) k = ok_lost h.refusal_of v h.stops (found_once (format_check c (job_of cert).words) c cert (Err h.refusal_of) (Ok tt) h.found k)
 
@@ -344,3 +379,18 @@ pub check_exact : (texts : JobTexts) (cert : Certificate) → IsExact (IsOfCheck
 check_exact (of_one c) cert why found h kept k = certificate_exact c cert why found h kept k
 check_exact (with_plant c p) cert why found h kept k = loop_certificate_exact c p cert why found h kept k
 check_exact texts cert why found h kept k = absurd h
+
+-- nor does a check
+no_stop_fault : (r : CheckRefusal) (which : WhichFile) → stop.ReadFault which ≡ stop_of_check r → ⊥
+no_stop_fault (refusal.Line line why) which e = cc
+no_stop_fault (refusal.Wide index) which e = cc
+no_stop_fault refusal.NoZeros which e = cc
+no_stop_fault (refusal.Loop why) which e = cc
+no_stop_fault (refusal.Quant r) which e = cc
+no_stop_fault (refusal.JobSize size) which e = cc
+no_stop_fault refusal.NoMemory which e = cc
+
+pub no_check_fault : (texts : JobTexts) (cert : Certificate) (which : WhichFile) → IsOfCheck texts cert (Err (stop.ReadFault which)) → ⊥
+no_check_fault (of_one c) cert which h = h
+no_check_fault (with_plant c p) cert which h = no_stop_fault h.0 which h.2
+no_check_fault texts cert which h = absurd h

@@ -58,9 +58,9 @@ use Rattle.dsv_cli.specs.Causes.{IsDecision, IsOfProperty, IsOfTiming, IsOfSets}
 use Rattle.dsv_cli.specs.Checking.{IsOfCertificate}
 use Rattle.dsv_cli.specs.Ellipsoids.{IsOfOffer, IsOfSoughtEllipsoid}
 use Rattle.dsv_cli.specs.JobRows.{JobTexts, of_one, of_sections, of_state_file, with_plant, sections_with_plant, Evidence, certificate, ellipsoid, JobWords, of_words, of_series, of_state_words, subject_of, ErrorIs, IsOfSections, IsOfDecision, IsOfOne, IsOfStatesAlone, IsOfKind, IsTaskDone, IsOfCheck}
-use Rattle.dsv_cli.specs.LoopChecks.{IsOfLoopCertificate}
+use Rattle.dsv_cli.specs.Checking.{IsOfLoopCertificate}
 use Rattle.dsv_cli.specs.Loops.{IsOfLoop}
-use Rattle.dsv_cli.specs.StateStages.{IsOfForm}
+use Rattle.dsv_cli.specs.States.{IsOfForm}
 use Rattle.dsv_cli.specs.States.{IsOfSoughtForm, IsOfStateTable}
 use Rattle.dsv_cli.specs.Timing.{IsTimingOf, IsOnTime}
 use Rattle.dsv_reader.specs.Controllers.{ControllerView}

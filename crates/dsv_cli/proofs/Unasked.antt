@@ -1,13 +1,11 @@
 -- Proposers that nobody asked, and polynomials that need none.
 use Rattle.std.proofs.Common.{◌≡◌, ◌⊎◌, inl, inr, ℕ, ◌+◌, ◌-◌, List, [], ◌∷◌, length, drop, map, refl, subst, sym, arith}
 use Rattle.std.specs.Prelude.{Bool, true, false, Option, Some, None, Ok, Err, IfOk, if◌then◌else◌, ℤ}
-use Rattle.dsv_base.specs.Seen.{FilesSeen}
 use Rattle.dsv_forms.specs.declared.offers.FormOffer.{FormOffer}
 use Rattle.dsv_forms.specs.declared.offers.FormOffer.TheVariants as offered
 use Rattle.dsv_closed_forms.specs.ClosedForm.{closed_form_of, are_within, second_limit}
 use Rattle.dsv_cli.specs.Suffixes.{IsSuffix}
 use Rattle.dsv_lyapunov.specs.declared.kept.KeptForm.{KeptForm}
-use Rattle.dsv_command.specs.Jobs.{Task, Asked}
 use Rattle.dsv_names.specs.declared.property.RootProperty.{RootProperty}
 use Rattle.dsv_report.specs.Printing.{HasPlaces}
 use Rattle.dsv_report.specs.declared.answers.Answer.TheVariants as answer
@@ -18,7 +16,6 @@ use Rattle.dsv_template.specs.declared.candidate.Candidate.{Candidate}
 use Rattle.dsv_template.specs.declared.kept.KeptSet.{KeptSet}
 use Rattle.dsv_template.specs.declared.shape.Shape.{Shape}
 use Rattle.dsv_cli.specs.Causes.{IsPlain, IsOfProperty, IsOfSets}
-use Rattle.dsv_cli.specs.Headline.{AsksSchurCohn, AsksNoTable, IsRow}
 use Rattle.dsv_cli.specs.Proposers.{IsAsked, IfOffered, IfNoForm, AreSetsAsked, IfAlways, IfNoInvariant, is_low}
 
 -- ---- nobody is asked
@@ -148,22 +145,9 @@ without : (b : Bool) (offer : FormOffer) → (if b then Some offer else None) �
 without true offer h = absurd (cc)
 without false offer h = refl
 
-no_low : (poly : List ℤ) → closed_form_of poly ≡ None → is_low poly ≡ false
+pub no_low : (poly : List ℤ) → closed_form_of poly ≡ None → is_low poly ≡ false
 no_low [] h = refl
 no_low (c0 ∷ []) h = absurd (cc)
 no_low (c0 ∷ c1 ∷ []) h = absurd (cc)
 no_low (c0 ∷ c1 ∷ c2 ∷ []) h = without (are_within second_limit (c0 ∷ c1 ∷ c2 ∷ [])) _ h
 no_low (c0 ∷ c1 ∷ c2 ∷ c3 ∷ cs) h = refl
-
-pub low_is_decided : (told : Option (List ℕ)) (old new : FilesSeen) (job : Asked) (found : Outcome) → IsRow told old new job found → IfNoForm found (λ poly kept. is_low poly ≡ false)
-low_is_decided told old new job (Ok (answer.NoForm poly kept verdict)) h = no_low poly h.shows.no_closed_form
-low_is_decided told old new job found h = tt
-
--- ---- with the Schur-Cohn form
-both_ways : (task : Task) → AsksSchurCohn task → AsksNoTable task → ⊥
-both_ways task h k = let e = h.1 in let f = k.1 in cc
-
--- a table decides at last
-pub table_decides : (told : Option (List ℕ)) (old new : FilesSeen) (job : Asked) (found : Outcome) → IsRow told old new job found → AsksSchurCohn job.task → IfNoForm found (λ poly kept. ⊥)
-table_decides told old new job (Ok (answer.NoForm poly kept verdict)) h asks = absurd (both_ways job.task asks h.belongs_to)
-table_decides told old new job found h asks = tt

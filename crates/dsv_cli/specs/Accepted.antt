@@ -9,18 +9,18 @@ use Rattle.dsv_certfile.specs.declared.certificate.Certificate.{Certificate}
 use Rattle.dsv_certfile.specs.declared.job.CertWords.{CertWords}
 use Rattle.dsv_certfile.specs.declared.job.CertifiedJob.{CertifiedJob}
 use Rattle.dsv_certcheck.specs.StateChecks.{Offers}
-use Rattle.dsv_command.specs.Requests.{family_of}
+use Rattle.dsv_command.specs.Requests.{IsInTable, IsCertifiable}
 use Rattle.dsv_command.specs.Table.{JobFiles, controller, cascade, states, plant_loop}
 use Rattle.dsv_command.specs.Table.{cascade_loop, checks_form, Job, Request, does, checks}
-use Rattle.dsv_report.specs.Output.{asked_by, certificate_written}
+use Rattle.dsv_report.specs.Headings.{asked_by}
+use Rattle.dsv_report.specs.Output.{certificate_written}
 use Rattle.dsv_report.specs.declared.answers.Answer.{Answer}
 use Rattle.dsv_report.specs.declared.answers.Answer.TheVariants as answer
 use Rattle.dsv_report.specs.declared.stop.Stop.TheVariants as stop
 use Rattle.dsv_report.specs.Stops.{Outcome}
 use Rattle.dsv_cli.specs.Cascades.{Pairwise}
-use Rattle.dsv_cli.specs.Explained.{IsSaid}
 use Rattle.dsv_cli.specs.Headline.{longest_certificate}
-use Rattle.dsv_cli.specs.JobRows.{IsAnswered, IsInTable}
+use Rattle.dsv_cli.specs.JobRows.{IsAnswered, IsSaid}
 
 -- the answer is that a certificate with this job is accepted, unless a read failed or there was no
 -- memory
@@ -85,9 +85,10 @@ HoldTheSame old files then_old other = ⊥
 abbrev pub WrittenAreAccepted : Type 0
 WrittenAreAccepted =
     (old new : FilesSeen) (job : Job) (many : ℕ) (words : CertWords) (found : Answer)
-    (c : Certificate) → IsInTable (does job) → IsAnswered old new (Some (does job)) (Ok found)
-    → IsSaid old new (family_of (does job)) (Ok found) many words
-    → certificate_written (asked_by many (family_of (does job))) words (Ok found) ≡ Some c
+    (c : Certificate) → IsInTable (does job) → IsCertifiable (does job)
+    → (row : IsAnswered old new (Some (does job)) (Ok found))
+    → IsSaid old new (Some (does job)) (Ok found) row many words
+    → certificate_written (asked_by many (Some (does job))) words (Ok found) ≡ Some c
     → IsTyped c → length (certificate_text c) ≤ longest_certificate
     → (then_old then_new : FilesSeen) (files : JobFiles) (name : List ℕ) (answered : Outcome)
     → HoldTheSame old job.files then_old files

@@ -1,5 +1,5 @@
--- The stages of a run and what each gives. The table (`JobRows`) cites what properties, sets and
--- timing come to; the rest is for private contracts.
+-- What properties of roots, sets and timing come to; what needs no proposer is for private
+-- contracts.
 use Rattle.std.specs.Prelude.{◌≡◌, ◌≤◌, ℕ, Bool, true, false, List, Ok, Err, ℤ}
 use Rattle.dsv_names.specs.declared.property.RootProperty.{RootProperty}
 use Rattle.dsv_names.specs.declared.property.RootProperty.TheVariants as property
@@ -7,8 +7,6 @@ use Rattle.dsv_reader.specs.Controllers.{ControllerView}
 use Rattle.dsv_quantiser.specs.QuantisedView.{QuantisedView}
 use Rattle.dsv_tested.specs.Tested.{side_of, tested_of}
 use Rattle.dsv_tested.specs.declared.side.Tested.TheVariants as tested
-use Rattle.dsv_command.specs.Jobs.{Task, decides, checks_time, writes, searches}
-use Rattle.dsv_command.specs.Jobs.{seeks_set, measures_gain, simulates}
 use Rattle.dsv_report.specs.declared.answers.Answer.TheVariants as answer
 use Rattle.dsv_report.specs.declared.stop.Stop.TheVariants as stop
 use Rattle.dsv_report.specs.Printing.{FormsHavePlaces}
@@ -16,13 +14,11 @@ use Rattle.dsv_report.specs.Stops.{Outcome}
 use Rattle.dsv_cli.specs.Headline.{ShowsFall, ShowsKeptAway, ShowsNoForm, ShowsTable}
 use Rattle.dsv_bounded.specs.RunAnswers.{IsTooLarge}
 use Rattle.dsv_invariant.specs.Limits.{unbounded_samples}
-use Rattle.dsv_cli.specs.Gain.{IsBreakOf, IsErrorOf, IsOfGain, most_gain_samples}
+use Rattle.dsv_cli.specs.Gain.{IsBreakOf, most_gain_samples}
 use Rattle.dsv_gain.specs.Subjects.{outlook_of}
 use Rattle.dsv_gain.specs.declared.outlook.Outlook.TheVariants as outlook
 use Rattle.dsv_realise.specs.SubjectView.{SubjectView}
-use Rattle.dsv_cli.specs.Searching.{IsOfFormula, IsOfSearch}
 use Rattle.dsv_cli.specs.Sets.{KeepsTo, NoneIsGood}
-use Rattle.dsv_cli.specs.Simulating.{IsOfRun}
 use Rattle.dsv_cli.specs.Timing.{IsTimingOf, IsOnTime}
 use Rattle.dsv_realise.specs.Controllers.{of_controller}
 
@@ -78,18 +74,6 @@ IsOfTiming c q (Ok (answer.OnTime report)) = IsTimingOf c q report × IsOnTime r
 IsOfTiming c q (Ok (answer.Late report)) = IsTimingOf c q report × (IsOnTime report → ⊥)
 IsOfTiming c q (Err stop.NoMemory) = Unit {0}
 IsOfTiming c q other = ⊥
-
--- what a task comes to for a controller that becomes these words
-abbrev pub IsOfTask : ControllerView → Task → QuantisedView → Outcome → Type 0
-IsOfTask c (decides of_property schur_cohn) q found = IsOfProperty of_property schur_cohn q found
-IsOfTask c checks_time q found = IsOfTiming c q found
-IsOfTask c (writes of_property samples) q found =
-    IsOfFormula of_property samples (of_controller q) found
-IsOfTask c (searches of_property samples conflicts) q found =
-    IsOfSearch of_property samples conflicts (of_controller q) found
-IsOfTask c (seeks_set conflicts) q found = IsOfSets conflicts q found
-IsOfTask c measures_gain q found = IsOfGain (IsErrorOf q) (of_controller q) found
-IsOfTask c (simulates inputs) q found = IsOfRun (of_controller q) inputs found
 
 -- the answer needs no proposer, and the forms in it have at most eight places
 abbrev pub IsPlain : Outcome → Type 0

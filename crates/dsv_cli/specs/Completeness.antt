@@ -3,11 +3,12 @@
 use Rattle.std.specs.Prelude.{◌≡◌, ◌⊎◌, ℕ, Some, Err}
 use Rattle.dsv_base.specs.Counts.{Rose}
 use Rattle.dsv_base.specs.Seen.{FilesSeen}
+use Rattle.dsv_command.specs.Requests.{IsInTable}
 use Rattle.dsv_command.specs.Table.{Request}
 use Rattle.dsv_report.specs.Report.{status_of}
 use Rattle.dsv_report.specs.declared.stop.Stop.TheVariants as stop
 use Rattle.dsv_report.specs.Stops.{Outcome}
-use Rattle.dsv_cli.specs.JobRows.{IsAnswered, IsInTable}
+use Rattle.dsv_cli.specs.JobRows.{IsAnswered}
 
 -- the status of a job that is done or holds, that fails, or that is inconclusive
 abbrev pub IsVerdict : ℕ → Type 0

@@ -1,10 +1,8 @@
--- What a run answers to a job of an ellipsoid: a table of its own, one row for each answer.
+-- What the file of an ellipsoid has, and what its check comes to, or the search for one.
 use Rattle.std.specs.Prelude.{◌≡◌, ℕ, ◌+◌, ◌<◌, ◌≤◌, List, length, Some, None, Ok, Err}
 use Rattle.dsv_base.specs.Counts.{Rose}
 use Rattle.dsv_base.specs.Seen.{FilesSeen}
-use Rattle.dsv_reader.specs.Controllers.{ControllerView}
 use Rattle.dsv_quantiser.specs.QuantisedView.{QuantisedView}
-use Rattle.dsv_quantiser.specs.Modes.{BecomesWords}
 use Rattle.dsv_bounded.specs.RunAnswers.{IsTooLarge}
 use Rattle.dsv_bounded.specs.RunQuestions.{IsWithin}
 use Rattle.dsv_invariant.specs.Limits.{unbounded_samples}
@@ -12,15 +10,13 @@ use Rattle.dsv_certfile.specs.Ellipsoids.{ellipsoid_in}
 use Rattle.dsv_certfile.specs.declared.ellipsoid.Ellipsoid.{Ellipsoid}
 use Rattle.dsv_ellipsoid.specs.Good.{IsGood, NeverBreaks, StaysKept}
 use Rattle.dsv_ellipsoid.specs.Refusals.{ellipsoid_refusal}
-use Rattle.dsv_command.specs.Ellipsoids.{EllipsoidSource, offered, sought, AskedEllipsoid}
 use Rattle.dsv_report.specs.declared.answers.Answer.TheVariants as answer
 use Rattle.dsv_report.specs.declared.stop.CertificateFault.TheVariants as fault
 use Rattle.dsv_report.specs.declared.stop.Stop.{Stop}
 use Rattle.dsv_report.specs.declared.stop.Stop.TheVariants as stop
 use Rattle.dsv_report.specs.declared.stop.WhichFile.TheVariants as file
 use Rattle.dsv_report.specs.Stops.{Outcome}
-use Rattle.dsv_cli.specs.Cascades.{IsFileOf}
-use Rattle.dsv_cli.specs.Headline.{longest_certificate, CameOf, IsUnread}
+use Rattle.dsv_cli.specs.Headline.{longest_certificate, CameOf}
 use Rattle.dsv_realise.specs.Controllers.{of_controller}
 
 -- ---- the offer
@@ -72,59 +68,3 @@ IsOfSoughtEllipsoid q (Ok answer.NoEllipsoid) = IsWithin (of_controller q) unbou
 IsOfSoughtEllipsoid q (Err (stop.JobSize size)) =
     IsTooLarge unbounded_samples (of_controller q) size
 IsOfSoughtEllipsoid q other = ⊥
-
--- ---- the stages of a job
--- what a job comes to for a controller in words, by where its ellipsoid comes from
-abbrev pub IsOfSource : FilesSeen → EllipsoidSource → QuantisedView → Outcome → Type 0
-IsOfSource old (offered name) q found = (offer : Ellipsoid) × IsOfferOf old name offer
-    × IsOfOffer offer q found
-IsOfSource old sought q found = IsOfSoughtEllipsoid q found
-
--- where an ellipsoid is offered, its file spells one
-abbrev pub NamesOffer : FilesSeen → EllipsoidSource → Type 0
-NamesOffer old (offered name) = (offer : Ellipsoid) × IsOfferOf old name offer
-NamesOffer old sought = Unit {0}
-
--- an ellipsoid is offered, and this keeps its file from spelling one
-abbrev pub NamesNoOffer : FilesSeen → FilesSeen → EllipsoidSource → Stop → Type 0
-NamesNoOffer old new (offered name) why = IsUnreadOffer old new name why
-NamesNoOffer old new sought why = ⊥
-
--- the controller becomes words for which the job comes to this
-abbrev pub IsFoundInWords : FilesSeen → AskedEllipsoid → ControllerView → Outcome → Type 0
-IsFoundInWords old asked c found = (q : QuantisedView) × BecomesWords c asked.design (Ok q)
-    × IsOfSource old asked.source q found
-
--- What a job comes to for the controller of its file: first the ellipsoid that is offered is read,
--- then the controller becomes words, and then its size is looked at and the ellipsoid is checked or
--- sought.
-abbrev pub IsOfEllipsoid : FilesSeen → FilesSeen → AskedEllipsoid → ControllerView → Outcome
-    → Type 0
-IsOfEllipsoid old new asked c (Err stop.NoMemory) = Unit {0}
-IsOfEllipsoid old new asked c (Err (stop.ReadFault which)) =
-    NamesNoOffer old new asked.source (stop.ReadFault which)
-IsOfEllipsoid old new asked c (Err (stop.CertificateRefused line why)) =
-    NamesNoOffer old new asked.source (stop.CertificateRefused line why)
-IsOfEllipsoid old new asked c (Err (stop.EllipsoidText r)) =
-    NamesNoOffer old new asked.source (stop.EllipsoidText r)
-IsOfEllipsoid old new asked c (Err (stop.QuantRefused r)) =
-    NamesOffer old asked.source × BecomesWords c asked.design (Err r)
-IsOfEllipsoid old new asked c found = IsFoundInWords old asked c found
-
--- ---- the table
--- the file has the text of a controller, for which the job comes to this
-abbrev pub IsOfEllipsoidFile : FilesSeen → FilesSeen → AskedEllipsoid → Outcome → Type 0
-IsOfEllipsoidFile old new asked found = (c : ControllerView) × IsFileOf old asked.file c
-    × IsOfEllipsoid old new asked c found
-
--- For private contracts: the row of each answer to a job of an ellipsoid, where the files were
--- `old` and are `new`.
-abbrev pub IsEllipsoidRow : FilesSeen → FilesSeen → AskedEllipsoid → Outcome → Type 0
-IsEllipsoidRow old new asked (Err stop.NoMemory) = Unit {0}
-IsEllipsoidRow old new asked (Err (stop.FileRefused r)) =
-    IsUnread (old.held asked.file) old new asked.file (stop.FileRefused r)
-IsEllipsoidRow old new asked (Err stop.FileTooLong) =
-    IsUnread (old.held asked.file) old new asked.file stop.FileTooLong
-IsEllipsoidRow old new asked (Err (stop.ReadFault file.Controller)) =
-    IsUnread (old.held asked.file) old new asked.file (stop.ReadFault file.Controller)
-IsEllipsoidRow old new asked found = IsOfEllipsoidFile old new asked found

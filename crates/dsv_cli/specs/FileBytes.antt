@@ -18,10 +18,8 @@ limit_of file.Certificate = longest_certificate
 
 -- why there is no answer where it has more
 abbrev pub too_long_of : WhichFile → Stop
-too_long_of file.Controller = stop.FileTooLong
-too_long_of (file.Section section) = stop.SectionTooLong section
-too_long_of file.Plant = stop.PlantTooLong
 too_long_of file.Certificate = stop.CertificateRefused 0 fault.TooLong
+too_long_of which = stop.FileTooLong which
 
 -- Why the bytes of the file of this name didn't come: the files were `old` and are `new`.
 abbrev pub IsUnreadFile : FilesSeen → FilesSeen → List ℕ → WhichFile → Stop → Type 0
@@ -31,3 +29,9 @@ IsUnreadFile old new name which stop.NoMemory = Unit {0}
 IsUnreadFile old new name which other = (other ≡ too_long_of which)
     × CameOf (old.held name) (λ bytes. limit_of which < length bytes)
     × Rose (old.came + limit_of which) new.came
+
+-- the file of a controller, or of a section
+abbrev pub IsOfController : WhichFile → Type 0
+IsOfController file.Controller = Unit {0}
+IsOfController (file.Section section) = Unit {0}
+IsOfController other = ⊥

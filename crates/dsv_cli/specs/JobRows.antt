@@ -1,14 +1,14 @@
 -- What a run answers to a job, stage by stage: its files in their order, the evidence that the task
 -- names, the words, and at last the task.
+use mathlib.Core.Logic.{inl, inr}
 use Rattle.std.specs.Prelude.{◌≡◌, ◌⊎◌, ℕ, Bool, List, [], ◌∷◌, true, false, Ok, Err}
-use Rattle.std.specs.Prelude.{Option, Some, None, if◌then◌else◌}
-use Rattle.std.specs.Result.{result_ok}
-use Rattle.std.specs.Str.{bytes_eq}
+use Rattle.std.specs.Prelude.{Option, Some, None}
 use Rattle.dsv_base.specs.Seen.{FilesSeen}
 use Rattle.dsv_names.specs.declared.design.Design.{Design}
 use Rattle.dsv_names.specs.declared.property.RootProperty.TheVariants.{Stability}
 use Rattle.dsv_reader.specs.Controllers.{ControllerView}
 use Rattle.dsv_reader.specs.Plants.{PlantView}
+use Rattle.dsv_reader.specs.Texts.{IsFaultOf}
 use Rattle.dsv_quantiser.specs.Modes.{BecomesWords}
 use Rattle.dsv_quantiser.specs.QuantisedView.{QuantisedView}
 use Rattle.dsv_realise.specs.Controllers.{of_controller}
@@ -23,33 +23,35 @@ use Rattle.dsv_state_space.specs.Quantising.{BecomesStates}
 use Rattle.dsv_state_space.specs.StateView.{StateView}
 use Rattle.dsv_state_space.specs.Subjects.{of_states}
 use Rattle.dsv_loop.specs.Loops.{loop_of}
+use Rattle.dsv_certfile.specs.Words.{words_for}
 use Rattle.dsv_certfile.specs.declared.certificate.Certificate.{Certificate}
 use Rattle.dsv_certfile.specs.declared.ellipsoid.Ellipsoid.{Ellipsoid}
+use Rattle.dsv_certfile.specs.declared.job.CertWords.{CertWords}
+use Rattle.dsv_certfile.specs.declared.job.CertWords.TheVariants as words
 use Rattle.dsv_command.specs.Table.{JobFiles, controller, cascade, states, plant_loop}
 use Rattle.dsv_command.specs.Table.{cascade_loop, Task, decides, checks_time, writes, searches}
 use Rattle.dsv_command.specs.Table.{seeks_set, measures_gain, simulates, checks_form, seeks_form}
 use Rattle.dsv_command.specs.Table.{checks_ellipsoid, seeks_ellipsoid, Request, does, checks}
-use Rattle.dsv_command.specs.Table.{generates, kind_of, has_cell, is_checked}
-use Rattle.dsv_command.specs.Finding.{asked_of}
-use Rattle.dsv_command.specs.Requests.{why_word}
+use Rattle.dsv_command.specs.Table.{generates}
 use Rattle.dsv_report.specs.declared.answers.Answer.TheVariants as answer
 use Rattle.dsv_report.specs.declared.answers.OutputError.{OutputError}
 use Rattle.dsv_report.specs.declared.stop.Stop.{Stop}
 use Rattle.dsv_report.specs.declared.stop.Stop.TheVariants as stop
+use Rattle.dsv_report.specs.declared.stop.WhichFile.TheVariants as file
 use Rattle.dsv_report.specs.Stops.{Outcome}
 use Rattle.dsv_cli.specs.Cascades.{IsFileOf, AreControllers, BecomeWords, IsNoCascade}
 use Rattle.dsv_cli.specs.Cascades.{IsLaterUnread}
 use Rattle.dsv_cli.specs.Causes.{IsOfProperty, IsOfSets, IsOfTiming}
-use Rattle.dsv_cli.specs.Checking.{IsUnreadCertificate, IsOfCertificate}
+use Rattle.dsv_cli.specs.Checking.{IsCertificateOf, IsUnreadCertificate, IsOfCertificate}
+use Rattle.dsv_cli.specs.Checking.{IsOfLoopCertificate}
 use Rattle.dsv_cli.specs.Ellipsoids.{IsOfferOf, IsUnreadOffer, IsOfOffer, IsOfSoughtEllipsoid}
 use Rattle.dsv_cli.specs.Gain.{IsErrorOf, IsNotSought, IsOfGain}
 use Rattle.dsv_cli.specs.Headline.{IsUnread, IsOfGeneration}
-use Rattle.dsv_cli.specs.LoopChecks.{IsCertificateOf, IsOfLoopCertificate}
-use Rattle.dsv_cli.specs.Loops.{IsPlantFileOf, IsPlantUnread, IsOfLoop, HasFewCoefficients}
+use Rattle.dsv_cli.specs.Loops.{IsPlantFileOf, IsPlantFault, IsOfLoop, HasFewCoefficients}
 use Rattle.dsv_cli.specs.Searching.{IsOfFormula, IsOfSearch}
 use Rattle.dsv_cli.specs.Simulating.{IsOfRun}
-use Rattle.dsv_cli.specs.StateStages.{IsOfForm}
 use Rattle.dsv_cli.specs.States.{IsStatesFileOf, IsStatesUnread, IsOfSoughtForm, IsOfStateTable}
+use Rattle.dsv_cli.specs.States.{IsOfForm}
 
 -- ---- the files
 -- what the files of a job have the texts of
@@ -76,16 +78,18 @@ HaveTexts old files texts = ⊥
 -- what keeps the first file from being the one that it has to be, or a later one, where those
 -- before it are
 abbrev pub AreUnread : FilesSeen → FilesSeen → JobFiles → Stop → Type 0
-AreUnread old new (controller name) why = IsUnread (old.held name) old new name why
-AreUnread old new (cascade name later) why = IsUnread (old.held name) old new name why
+AreUnread old new (controller name) why = IsUnread file.Controller IsFaultOf old new name why
+AreUnread old new (cascade name later) why = IsUnread file.Controller IsFaultOf old new name why
     ⊎ ((c : ControllerView) × IsFileOf old name c × IsLaterUnread old new later why)
 AreUnread old new (states name) why = IsStatesUnread old new name why
-AreUnread old new (plant_loop name plant) why = IsUnread (old.held name) old new name why
-    ⊎ ((c : ControllerView) × IsFileOf old name c × IsPlantUnread old new plant why)
-AreUnread old new (cascade_loop name later plant) why = IsUnread (old.held name) old new name why
+AreUnread old new (plant_loop name plant) why = IsUnread file.Controller IsFaultOf old new name why
+    ⊎ ((c : ControllerView) × IsFileOf old name c
+    × IsUnread file.Plant IsPlantFault old new plant why)
+AreUnread old new (cascade_loop name later plant) why =
+    IsUnread file.Controller IsFaultOf old new name why
     ⊎ (((c : ControllerView) × IsFileOf old name c × IsLaterUnread old new later why)
     ⊎ ((c : ControllerView) × (cs : List ControllerView) × IsFileOf old name c
-    × AreControllers old later cs × IsPlantUnread old new plant why))
+    × AreControllers old later cs × IsUnread file.Plant IsPlantFault old new plant why))
 
 -- ---- what a task names
 pub data Evidence : Type 0 where
@@ -128,7 +132,7 @@ BecomeJobWords design texts words = ⊥
 
 -- why a controller becomes no words
 abbrev pub IsWordless : Design → ControllerView → Stop → Type 0
-IsWordless design c (stop.QuantRefused r) = BecomesWords c design (Err r)
+IsWordless design c (stop.QuantRefused file.Controller r) = BecomesWords c design (Err r)
 IsWordless design c other = ⊥
 
 -- why it becomes none
@@ -267,12 +271,6 @@ IsCheckOfRow old new files name (Err why) = AreUnread old new files why
     ⊎ IsCheckedBy old files name (Err why))
 
 -- ---- all requests
--- the table has such a request: a task of what is asked about, or the check of its certificate
-abbrev pub IsInTable : Request → Type 0
-IsInTable (does job) = has_cell (kind_of job.files) job.task ≡ true
-IsInTable (checks files name) = is_checked (kind_of files) ≡ true
-IsInTable (generates seed count) = Unit {0}
-
 -- Arguments that ask for nothing come to Usage, a job or a check to what has its row, and generated
 -- controllers are answered by their tally, with the files untouched. Only NoMemory has no stated
 -- cause.
@@ -285,8 +283,48 @@ IsAnswered old new (Some (checks files name)) found = IsCheckOfRow old new files
 IsAnswered old new (Some (generates seed count)) found =
     IsOfGeneration seed count found × (new ≡ old)
 
--- the request of a list of arguments, by the table, or none
-unfoldable pub requested : List (List ℕ) → Option Request
-requested [] = result_ok (asked_of [])
-requested (first ∷ rest) = if bytes_eq first why_word then None
-    else result_ok (asked_of (first ∷ rest))
+-- ---- what is said beside the row
+-- How many states are said of what files have, and what certificates say of its words: of a
+-- controller alone or in its loop nothing but its format, of a state-space controller both, and of
+-- cascades nothing.
+abbrev pub IsSaidOf : JobTexts → ℕ → CertWords → Type 0
+IsSaidOf (of_one c) many said = (many ≡ 0) × (said ≡ words_for c.int_bits c.frac_bits)
+IsSaidOf (with_plant c p) many said = (many ≡ 0) × (said ≡ words_for c.int_bits c.frac_bits)
+IsSaidOf (of_state_file c) many said =
+    (many ≡ c.states) × (said ≡ words_for c.int_bits c.frac_bits)
+IsSaidOf texts many said = (many ≡ 0) × (said ≡ words.Unsaid)
+
+-- nothing is said
+abbrev pub IsNothing : ℕ → CertWords → Type 0
+IsNothing many said = (many ≡ 0) × (said ≡ words.Unsaid)
+
+-- What is said beside the row of a job: what the texts of the row have, and nothing if one of the
+-- files isn't what it has to be. Want of memory has no texts in its row: it may come before them or
+-- after.
+abbrev pub IsSaidBy : (old new : FilesSeen) (files : JobFiles) (task : Task) (design : Design)
+    (found : Outcome) → IsJobRow old new files task design found → ℕ → CertWords → Type 0
+IsSaidBy old new files task design (Ok found) row many said = IsSaidOf row.texts many said
+IsSaidBy old new files task design (Err stop.NoMemory) row many said =
+    ((texts : JobTexts) × HaveTexts old files texts × IsSaidOf texts many said)
+    ⊎ IsNothing many said
+IsSaidBy old new files task design (Err why) (inl unread) many said = IsNothing many said
+IsSaidBy old new files task design (Err why) (inr (inl lacks)) many said =
+    IsSaidOf lacks.0 many said
+IsSaidBy old new files task design (Err why) (inr (inr (inl wordless))) many said =
+    IsSaidOf wordless.0 many said
+IsSaidBy old new files task design (Err why) (inr (inr (inr done))) many said =
+    IsSaidOf done.texts many said
+
+-- How many states a run says that its controller has, and what its certificate says of the words,
+-- beside the row of its answer: nothing of what is no job.
+abbrev pub IsSaid : (old new : FilesSeen) (request : Option Request) (found : Outcome)
+    → IsAnswered old new request found → ℕ → CertWords → Type 0
+IsSaid old new (Some (does job)) found row many said =
+    IsSaidBy old new job.files job.task job.design found row many said
+IsSaid old new other found row many said = IsNothing many said
+
+-- these are the words that the controller of a job's files becomes
+abbrev pub FileBecomes : FilesSeen → Option Request → QuantisedView → Type 0
+FileBecomes old (Some (does job)) q = (texts : JobTexts) × HaveTexts old job.files texts
+    × BecomeJobWords job.design texts (of_words q)
+FileBecomes old other q = ⊥

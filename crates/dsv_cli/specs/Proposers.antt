@@ -1,13 +1,14 @@
 -- What becomes of the lists of proposers, whatever they offer.
-use Rattle.std.specs.Prelude.{◌≡◌, ◌⊎◌, Bool, true, false, List, [], ◌∷◌, map}
+use Rattle.std.specs.Prelude.{◌≡◌, ◌⊎◌, ℕ, Bool, true, false, List, [], ◌∷◌, map}
 use Rattle.std.specs.Prelude.{Option, Some, None, Ok, Err, ℤ}
 use Rattle.dsv_forms.specs.declared.offers.FormOffer.{FormOffer}
 use Rattle.dsv_forms.specs.declared.offers.FormOffer.TheVariants as offered
 use Rattle.dsv_closed_forms.specs.ClosedForm.{closed_form_of, are_within, second_limit}
 use Rattle.dsv_cli.specs.Blocks.{AreBlocks}
 use Rattle.dsv_cli.specs.Suffixes.{IsSuffix, IfFirst, HoldsOfNone}
-use Rattle.dsv_command.specs.Requests.{Request, on_file}
-use Rattle.dsv_cli.specs.Headline.{Decides, Seeks, AsksSchurCohn}
+use Rattle.dsv_command.specs.Table.{Task, decides, seeks_set, Request, does, kind_of}
+use Rattle.dsv_command.specs.declared.kind.Kind.TheVariants as of_kind
+use Rattle.dsv_names.specs.declared.property.RootProperty.{RootProperty}
 use Rattle.dsv_lyapunov.specs.declared.kept.KeptForm.{KeptForm}
 use Rattle.dsv_quantiser.specs.QuantisedView.{QuantisedView}
 use Rattle.dsv_schur_cohn.specs.Offer.{IsSmall, HasNegativePlace}
@@ -72,15 +73,26 @@ pub record IsAsked {B P : Type 0} (place : B → P) (last : B → Option FormOff
   pub blocks : IfNoForm found
       (λ poly kept. AreBlocks 32 (told_of to_come poly before) (offers_in kept))
 
--- the request is to decide a polynomial, for which forms may be wanted; a loop's is decided by its
--- table
+-- the task decides a property of roots
+abbrev pub Decides : Task → Type 0
+Decides task =
+    (property : RootProperty) × (schur_cohn : Bool) × (task ≡ decides property schur_cohn)
+
+-- the task decides one; the Schur-Cohn form comes before any proposer, and a table decides at last
+abbrev pub AsksSchurCohn : Task → Type 0
+AsksSchurCohn task = (property : RootProperty) × (task ≡ decides property true)
+
+-- the request is to decide a polynomial of a controller, for which forms may be wanted; all else is
+-- decided by closed forms or by tables
 abbrev pub WantsForm : Option Request → Type 0
-WantsForm (Some (on_file job)) = Decides job.task
+WantsForm (Some (does job)) = (kind_of job.files ≡ of_kind.Controller) × Decides job.task
 WantsForm other = ⊥
 
--- the request is to decide a polynomial, with the Schur-Cohn form first of all, and the table last
+-- the request is to decide such a polynomial, with the Schur-Cohn form first of all, and the table
+-- last
 abbrev pub WantsSchurCohn : Option Request → Type 0
-WantsSchurCohn (Some (on_file job)) = AsksSchurCohn job.task
+WantsSchurCohn (Some (does job)) =
+    (kind_of job.files ≡ of_kind.Controller) × AsksSchurCohn job.task
 WantsSchurCohn other = ⊥
 
 -- The polynomial is none that its Schur-Cohn form is known to decide always.
@@ -130,7 +142,11 @@ pub record AreSetsAsked {B P : Type 0} (place : B → P) (last : B → Option Ca
   pub asked : IfNoInvariant found
       (AreOfJob becomes (λ words. told_for to_come words before))
 
--- the request is to seek a set
+-- the task is to seek a set
+abbrev pub Seeks : Task → Type 0
+Seeks task = (conflicts : ℕ) × (task ≡ seeks_set conflicts)
+
+-- so is the request's
 abbrev pub WantsSet : Option Request → Type 0
-WantsSet (Some (on_file job)) = Seeks job.task
+WantsSet (Some (does job)) = Seeks job.task
 WantsSet other = ⊥

@@ -3,11 +3,11 @@ use Rattle.std.specs.Prelude.{◌≡◌, ℕ, false, List, IfSome}
 use Rattle.dsv_base.specs.Seen.{FilesSeen, SinkSeen}
 use Rattle.dsv_certfile.specs.Typed.{IsTyped}
 use Rattle.dsv_command.specs.Requests.{reason_of, request_of}
-use Rattle.dsv_report.specs.Output.{run_text, certificate_written, asked_by}
+use Rattle.dsv_report.specs.Headings.{asked_by}
+use Rattle.dsv_report.specs.Output.{run_text, certificate_written}
 use Rattle.dsv_report.specs.Report.{status_of}
 use Rattle.dsv_cli.specs.declared.command.Done.{Done}
-use Rattle.dsv_cli.specs.Explained.{IsSaid}
-use Rattle.dsv_cli.specs.JobRows.{IsAnswered, requested}
+use Rattle.dsv_cli.specs.JobRows.{IsAnswered, IsSaid}
 use Rattle.dsv_cli.specs.Headline.{AreKept, IsWritten, IfWhole}
 use Rattle.dsv_cli.specs.Proposers.{IfNoForm, WantsSchurCohn, is_low}
 
@@ -16,14 +16,14 @@ use Rattle.dsv_cli.specs.Proposers.{IfNoForm, WantsSchurCohn, is_low}
 pub record IsDone (old new : FilesSeen) (from to : SinkSeen) (arguments : List (List ℕ))
     (done : Done) : Type 0 where
   -- the outcome's row in the table holds
-  pub explained : IsAnswered old new (requested arguments) done.outcome
+  pub explained : IsAnswered old new (request_of arguments) done.outcome
   -- a polynomial of order 0 or 1, or 2 with small coefficients, is always decided
   pub low_orders : IfNoForm done.outcome (λ poly kept. is_low poly ≡ false)
   -- if the Schur-Cohn form is asked for, so is each: by its table at last
   pub schur_cohn : WantsSchurCohn (request_of arguments) → IfNoForm done.outcome (λ poly kept. ⊥)
-  -- what a certificate says of the words is what the file's controller has, and so is how many
+  -- what a certificate says of the words is what the texts of this row have, and so is how many
   -- states the report of a state-space controller says
-  pub said : IsSaid old new (request_of arguments) done.outcome done.states done.words
+  pub said : IsSaid old new (request_of arguments) done.outcome explained done.states done.words
   -- what the files hold is as before
   pub kept : AreKept old new
   -- the certificate that the job wants, or the reason that is asked for, or else the outcome's

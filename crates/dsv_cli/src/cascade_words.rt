@@ -1,7 +1,7 @@
 // The sections of a cascade: controllers made words.
 ghost use Rattle.std.specs.Prelude.{◌≡◌, ◌≤◌, length, IfOk, IfErr, Ok, Err};
 ghost use Rattle.dsv_cascade.specs.Sections.{IsCascade};
-ghost use Rattle.dsv_command.specs.Cascades.{most_later};
+ghost use Rattle.dsv_command.specs.SectionNames.{most_later};
 ghost use Rattle.dsv_quantiser.specs.Modes.{BecomesWords};
 ghost use Rattle.dsv_quantiser.specs.declared.refusal.QuantRefusal.{QuantRefusal};
 ghost use Rattle.dsv_cli.specs.Cascades.{BecomeWords, IsLaterRefused, IsNoCascade};
@@ -12,22 +12,22 @@ use dsv_cascade::Cascade;
 use dsv_names::Design;
 use dsv_quantiser::{Quantised, quantise_in};
 use dsv_reader::Controller;
-use dsv_report::Stop;
+use dsv_report::{Stop, WhichFile};
 use std::alloc::Global;
 
-/// The words of a section's controller, 1 or more.
-fn quantise_section(
+/// The words of the controller in this file.
+pub(crate) fn quantise_file(
     controller: &Controller,
-    section: u32,
+    which: WhichFile,
     design: Design,
 ) -> Result<Quantised, Stop>
     ensures words { IfOk result (λ q. BecomesWords controller.now design (Ok q)) }
     ensures refused { IfErr result (λ why. (r : QuantRefusal)
-        × (why ≡ stop.SectionQuant section r) × BecomesWords controller.now design (Err r)) }
+        × (why ≡ stop.QuantRefused which r) × BecomesWords controller.now design (Err r)) }
 {
     match quantise_in(controller, design) {
         Ok(quantised) => Ok(quantised),
-        Err(refusal) => Err(Stop::SectionQuant { section, refusal }),
+        Err(refusal) => Err(Stop::QuantRefused { which, refusal }),
     }
 }
 
@@ -44,7 +44,8 @@ fn quantise_later(
 {
     let mut sections = Vec::new(alloc);
     for i in 0..controllers.len() {
-        let quantised = quantise_section(&controllers[i], i as u32 + 1, design)?;
+        let which = WhichFile::Section(i as u32 + 1);
+        let quantised = quantise_file(&controllers[i], which, design)?;
         push_item(&mut sections, quantised)?;
     }
     Ok(sections)
@@ -57,14 +58,13 @@ pub(crate) fn quantised_cascade(
     controllers: &SectionFiles,
     design: Design,
 ) -> Result<Cascade, Stop>
-    requires { length controllers.now.later.items ≤ most_later }
     ensures first { IfOk result (λ c. BecomesWords controllers.now.first design (Ok c.first)) }
     ensures later { IfOk result (λ c. BecomeWords design controllers.now.later.items c.later) }
     ensures cascade { IfOk result IsCascade }
     ensures refused { IfErr result
         (IsNoCascade design controllers.now.first controllers.now.later.items) }
 {
-    let first = quantise_in(&controllers.first, design)?;
+    let first = quantise_file(&controllers.first, WhichFile::Controller, design)?;
     let later = quantise_later(alloc, controllers.later.as_slice(), design)?;
     let cascade = Cascade::new(first, later)?;
     let _sections = cascade.later_sections(); // what is true of them, for the proof

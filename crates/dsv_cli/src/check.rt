@@ -1,37 +1,25 @@
-// Checks the certificate in a file against the controller in another.
-ghost use Rattle.std.specs.Prelude.{◌≡◌, IfOk, IfErr};
+// Checks the certificate in a file against what is in others.
+ghost use Rattle.std.specs.Prelude.{◌≡◌, true};
+ghost use Rattle.dsv_command.specs.Table.{is_checked, kind_of};
+ghost use Rattle.dsv_command.specs.Views.{files_view};
 ghost use Rattle.dsv_cli.specs.Causes.{IsPlain};
-ghost use Rattle.dsv_cli.specs.Checking.{IsOfCertificate, IsUnreadCertificate, stop_of_check};
-ghost use Rattle.dsv_cli.specs.Headline.{AreKept, CameOf, IsSpelled, IsCheckRow};
+ghost use Rattle.dsv_cli.specs.Checking.{IsOfCertificate, IsOfLoopCertificate, stop_of_check};
+ghost use Rattle.dsv_cli.specs.Headline.{AreKept};
+ghost use Rattle.dsv_cli.specs.JobRows.{IsCheckOfRow, IsOfCheck};
+ghost use Rattle.dsv_cli.specs.Stages.{kind_in, texts_view};
 
-use crate::controller_file::read_controller;
-use crate::file_bytes::read_bytes;
+use crate::evidence::read_certificate;
+use crate::texts::{Texts, read_texts};
 use dsv_base::Files;
-use dsv_certcheck::{CheckRefusal, check};
+use dsv_certcheck::{CheckRefusal, check, check_loop};
 use dsv_certfile::{Certificate, CheckFault};
-use dsv_command::Check;
-use dsv_reader::Controller;
+use dsv_command::JobFiles;
+use dsv_reader::{Controller, Plant};
 use dsv_report::{Answer, CertificateFault, Stop, WhichFile};
 use std::alloc::Global;
 
 /// The line of a certificate's job.
 const JOB_LINE: u64 = 2;
-
-/// The certificate in the file of this name.
-pub(crate) fn read_certificate<F: Files>(
-    alloc: Global,
-    name: &str,
-    files: &mut F,
-) -> Result<Certificate, Stop>
-    ensures spelled { IfOk result (λ c. CameOf ((F.seen files.old).held name.now)
-        (λ written. IsSpelled written c)) }
-    ensures unread { IfErr result
-        (IsUnreadCertificate (F.seen files.old) (F.seen files.new) name.now) }
-    ensures kept { AreKept (F.seen files.old) (F.seen files.new) }
-{
-    let bytes = read_bytes(alloc, name, WhichFile::Certificate, files)?;
-    Ok(dsv_certfile::read(alloc, bytes.as_slice())?)
-}
 
 /// Why there is no answer where the check of a certificate refuses it.
 pub(crate) fn check_stop(refusal: CheckRefusal) -> Stop
@@ -47,7 +35,10 @@ pub(crate) fn check_stop(refusal: CheckRefusal) -> Stop
             fault: CertificateFault::Check(CheckFault::Shape),
         },
         CheckRefusal::Loop(refusal) => Stop::LoopRefused(refusal),
-        CheckRefusal::Quant(refusal) => Stop::QuantRefused(refusal),
+        CheckRefusal::Quant(refusal) => Stop::QuantRefused {
+            which: WhichFile::Controller,
+            refusal,
+        },
         CheckRefusal::JobSize { size } => Stop::JobSize { size },
         CheckRefusal::NoMemory => Stop::NoMemory,
     }
@@ -71,19 +62,55 @@ fn certificate_answer(
     }
 }
 
-/// What the check of the certificate in a file comes to, for the controller in the other, which is
-/// read first.
-pub(crate) fn check_answer<F: Files>(
+/// What the check of a certificate against a controller and a plant comes to.
+fn loop_certificate_answer(
     alloc: Global,
-    asked: &Check,
+    controller: &Controller,
+    plant: &Plant,
+    certificate: &Certificate,
+) -> Result<Answer, Stop>
+    ensures found { IsOfLoopCertificate controller.now plant.now certificate.now result }
+    ensures plain { IsPlain result }
+{
+    match check_loop(alloc, controller, plant, certificate) {
+        Ok(()) => Ok(Answer::Checked {
+            certified: *certificate.job(),
+            error: None,
+        }),
+        Err(refusal) => Err(check_stop(refusal)),
+    }
+}
+
+/// What the check of a certificate against what files have comes to.
+fn texts_check(alloc: Global, texts: &Texts, certificate: &Certificate) -> Result<Answer, Stop>
+    requires { is_checked (kind_in (texts_view texts.now)) ≡ true }
+    ensures found { IsOfCheck (texts_view texts.now) certificate.now result }
+    ensures plain { IsPlain result }
+{
+    match texts {
+        Texts::Controller(controller) => certificate_answer(alloc, controller, certificate),
+        Texts::Loop { controller, plant } => {
+            loop_certificate_answer(alloc, controller, plant, certificate)
+        }
+        _ => unreachable!(),
+    }
+}
+
+/// What the check of the certificate in the file of this name comes to, for what is in the files
+/// that are named, which are read first.
+pub(crate) fn check_outcome<F: Files>(
+    alloc: Global,
+    named: &JobFiles,
+    certificate: &str,
     files: &mut F,
 ) -> Result<Answer, Stop>
-    ensures row { IsCheckRow ((F.seen files.old).held asked.now.file.now) (F.seen files.old)
-        (F.seen files.new) asked.now.file.now asked.now.certificate.now result }
+    requires { is_checked (kind_of (files_view named.now)) ≡ true }
+    ensures row { IsCheckOfRow (F.seen files.old) (F.seen files.new) (files_view named.now)
+        certificate.now result }
     ensures kept { AreKept (F.seen files.old) (F.seen files.new) }
     ensures plain { IsPlain result }
 {
-    let controller = read_controller(alloc, asked.file, files)?;
-    let certificate = read_certificate(alloc, asked.certificate, files)?;
-    certificate_answer(alloc, &controller, &certificate)
+    let texts = read_texts(alloc, named, files)?;
+    let certificate = read_certificate(alloc, certificate, files)?;
+    texts_check(alloc, &texts, &certificate)
 }

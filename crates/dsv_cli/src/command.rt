@@ -1,30 +1,31 @@
 // The command.
-ghost use Rattle.std.specs.Prelude.{◌≡◌, Some, None, Err, IfOk, IfSome, map, string_bytes};
+ghost use Rattle.std.specs.Prelude.{◌≡◌, Some, None, Err, IfOk, IfSome, map, option_map};
+ghost use Rattle.std.specs.Prelude.{string_bytes};
 ghost use Rattle.dsv_certfile.specs.Lawful.{IsWords};
 ghost use Rattle.dsv_certfile.specs.Typed.{IsTyped};
 ghost use Rattle.dsv_certfile.specs.declared.job.CertWords.TheVariants as words_said;
-ghost use Rattle.dsv_command.specs.Asking.{requested_of};
-ghost use Rattle.dsv_command.specs.Requests.{job_in, request_of};
-ghost use Rattle.dsv_command.specs.Views.{reason_view};
-ghost use Rattle.dsv_report.specs.AnyJobs.{asked_in};
+ghost use Rattle.dsv_command.specs.Requests.{request_of};
+ghost use Rattle.dsv_command.specs.Views.{reason_view, request_view};
+ghost use Rattle.dsv_report.specs.Headings.{asked_by, heading_view};
 ghost use Rattle.dsv_report.specs.Printing.{HasPlaces};
-ghost use Rattle.dsv_report.specs.Output.{output_of, certificate_written, asked_by};
+ghost use Rattle.dsv_report.specs.Output.{output_of, certificate_written};
 ghost use Rattle.dsv_report.specs.Reasons.{reason_text};
 ghost use Rattle.dsv_report.specs.Report.{status_of};
 ghost use Rattle.dsv_report.specs.declared.stop.Stop.TheVariants as stop;
-ghost use Rattle.dsv_cli.specs.Headline.{FileBecomes, IsWritten, IfWhole};
+ghost use Rattle.dsv_cli.specs.Headline.{IsWritten, IfWhole};
+ghost use Rattle.dsv_cli.specs.JobRows.{FileBecomes};
 ghost use Rattle.dsv_cli.specs.Proposers.{IsAsked, AreSetsAsked};
 ghost use Rattle.dsv_cli.specs.Proposers.{WantsForm, WantsSet, WantsSchurCohn};
 ghost use Rattle.dsv_cli.specs.Runs.{IsDone};
 
-use crate::found::Found;
+use crate::jobs::Found;
 use crate::proposers::Proposers;
 use crate::requests::request_outcome;
 use dsv_base::{Files, Sink};
 use dsv_certfile::CertWords;
 use dsv_command::{Line, Reason, Request, read_line};
 use dsv_lyapunov::FormProposer;
-use dsv_report::{Answer, AnyJob, Stop, put_output, put_reason, status_of};
+use dsv_report::{Answer, Heading, Stop, put_output, put_reason, status_of};
 use dsv_template::InvariantProposer;
 use std::alloc::Global;
 
@@ -43,32 +44,29 @@ pub struct Done {
     pub states: u32,
 }
 
-/// The job that a report is headed by, if the request is one.
-fn heading_of<'a>(request: &'a Request, states: u32) -> Option<AnyJob<'a>>
-    ensures { asked_in result ≡ asked_by states (Some (requested_of request.now)) }
+/// What a report is headed by, if the request is a job.
+fn heading_of<'a>(request: &'a Request, states: u32) -> Option<Heading<'a>>
+    ensures { option_map heading_view result ≡ asked_by states (Some (request_view request.now)) }
 {
     match request {
-        Request::OnFile(job) => Some(AnyJob::OfController(job)),
-        Request::OnCascade(job) => Some(AnyJob::OfCascade(job)),
-        Request::OnStates(job) => Some(AnyJob::OfStates { job, states }),
-        Request::OnEllipsoid(job) => Some(AnyJob::OfEllipsoid(job)),
-        Request::OnLoop(job) => Some(AnyJob::OfLoop(job)),
-        Request::OnCascadeLoop(job) => Some(AnyJob::OfCascadeLoop(job)),
-        Request::Check(_) | Request::CheckLoop(_) | Request::Generate(_) => None,
+        Request::Do(job) => Some(Heading { job, states }),
+        Request::Check { .. } | Request::Generate(_) => None,
     }
 }
 
 /// Writes what was found under this heading. The status is 4 if not the whole text was written.
-fn put_found<K: Sink>(sink: &mut K, heading: Option<AnyJob>, found: Found) -> Done
+fn put_found<K: Sink>(sink: &mut K, heading: Option<Heading>, found: Found) -> Done
     requires places { IfOk found.outcome HasPlaces }
     requires words { IsWords found.words }
     ensures outcome { result.outcome ≡ found.outcome }
     ensures words { result.words ≡ found.words }
     ensures states { result.states ≡ found.states }
     ensures written { IsWritten (K.seen sink.old) (K.seen sink.new) result.status
-        (status_of found.outcome) (output_of (asked_in heading.entry) found.words found.outcome) }
-    ensures typed { IfWhole result.status
-        (IfSome (certificate_written (asked_in heading.entry) found.words found.outcome) IsTyped) }
+        (status_of found.outcome)
+        (output_of (option_map heading_view heading.entry) found.words found.outcome) }
+    ensures typed { IfWhole result.status (IfSome
+        (certificate_written (option_map heading_view heading.entry) found.words found.outcome)
+        IsTyped) }
 {
     let Found {
         outcome,
@@ -139,7 +137,7 @@ pub fn run<F: Files, K: Sink>(
     ensures sets { AreSetsAsked (λ b. b.ptr)
         (λ b. (⟦<dyn InvariantProposer as InvariantProposer>⟧ b.vtable).last b.value)
         (λ b shape. (⟦<dyn InvariantProposer as InvariantProposer>⟧ b.vtable).to_come b.value shape)
-        (FileBecomes (F.seen files.old) (job_in (request_of (map string_bytes arguments.now))))
+        (FileBecomes (F.seen files.old) (request_of (map string_bytes arguments.now)))
         proposers.old.sets.items proposers.new.sets.items result.outcome }
     ensures forms { IsAsked (λ b. b.ptr)
         (λ b. (⟦<dyn FormProposer as FormProposer>⟧ b.vtable).last b.value)

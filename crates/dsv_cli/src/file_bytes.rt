@@ -29,13 +29,11 @@ fn too_long_stop(which: WhichFile) -> Stop
     ensures { result ≡ too_long_of which }
 {
     match which {
-        WhichFile::Controller => Stop::FileTooLong,
-        WhichFile::Section(section) => Stop::SectionTooLong { section },
-        WhichFile::Plant => Stop::PlantTooLong,
         WhichFile::Certificate => Stop::CertificateRefused {
             line: 0,
             fault: CertificateFault::TooLong,
         },
+        which => Stop::FileTooLong { which },
     }
 }
 

@@ -2,23 +2,23 @@
 //! text.
 #![tactic(auto)]
 
-mod cascade_loops;
 mod cascade_words;
 mod cascades;
 mod check;
 mod command;
 mod controller_file;
-mod ellipsoids;
+mod controllers;
+mod evidence;
 mod file_bytes;
 mod forms;
-mod found;
 mod gain;
-mod job;
+mod in_words;
+mod jobs;
 mod law;
-mod loop_check;
-mod loop_files;
 mod loops;
+mod offers;
 mod os_files;
+mod plant_file;
 mod proposers;
 mod questions;
 mod requests;
@@ -30,6 +30,7 @@ mod sets;
 mod simulation;
 mod state_file;
 mod states;
+mod texts;
 mod timing;
 mod turns;
 

@@ -1,10 +1,10 @@
 // The proposers that a run may ask, and the command with those that are built in.
 ghost use Rattle.std.specs.Prelude.{◌≡◌, [], ◌∷◌, Some, map, string_bytes};
-ghost use Rattle.dsv_command.specs.Requests.{job_in, request_of};
+ghost use Rattle.dsv_command.specs.Requests.{request_of};
 ghost use Rattle.dsv_invariant.specs.Shapes.{shape_of};
 ghost use Rattle.dsv_template.specs.declared.shape.Shape.{Shape};
 ghost use Rattle.dsv_template.specs.Boxes.{boxes};
-ghost use Rattle.dsv_cli.specs.Headline.{FileBecomes};
+ghost use Rattle.dsv_cli.specs.JobRows.{FileBecomes};
 ghost use Rattle.dsv_cli.specs.Proposers.{IfNoInvariant};
 ghost use Rattle.dsv_cli.specs.Runs.{IsDone};
 ghost use Rattle.dsv_cli.specs.Sets.{AreOfJob};
@@ -42,7 +42,7 @@ fn run_with<F: Files, K: Sink>(
     // No set: each of the first 32 boxes was judged, and one that is good has a search that gave
     // up.
     ensures boxes { IfNoInvariant result.outcome (AreOfJob
-        (FileBecomes (F.seen files.old) (job_in (request_of (map string_bytes arguments.now))))
+        (FileBecomes (F.seen files.old) (request_of (map string_bytes arguments.now)))
         (λ q. Some (boxes (shape_of q)) ∷ [])) }
 {
     let Ok(second) = Box::new(alloc, SumProposer::new()) else {
@@ -70,7 +70,7 @@ pub fn run_with_built_in<F: Files, K: Sink>(
     // No set: each of the first 32 boxes was judged, and one that is good has a search that gave
     // up.
     ensures boxes { IfNoInvariant result.outcome (AreOfJob
-        (FileBecomes (F.seen files.old) (job_in (request_of (map string_bytes arguments.now))))
+        (FileBecomes (F.seen files.old) (request_of (map string_bytes arguments.now)))
         (λ q. Some (boxes (shape_of q)) ∷ [])) }
 {
     let Ok(first) = Box::new(alloc, BoxProposer::new()) else {

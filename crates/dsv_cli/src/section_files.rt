@@ -1,16 +1,14 @@
 // The controllers in the files of a cascade's sections.
 ghost use Rattle.std.specs.Prelude.{◌≡◌, ◌≤◌, [], ◌∷◌, ◌++◌, length, map, IfOk, IfErr};
-ghost use Rattle.dsv_command.specs.Cascades.{most_later};
-ghost use Rattle.dsv_cli.specs.Cascades.{AreControllers, HaveControllers};
-ghost use Rattle.dsv_cli.specs.Cascades.{IsSectionUnread, IsLaterUnread};
-ghost use Rattle.dsv_cli.specs.Headline.{AreKept, CameOf, IsControllerOf};
-ghost use Rattle.dsv_cli.specs.SectionFiles.{stop_of_section, IsFilesUnread};
+ghost use Rattle.dsv_command.specs.SectionNames.{most_later};
+ghost use Rattle.dsv_cli.specs.Cascades.{AreControllers, IsFileOf, IsLaterUnread};
+ghost use Rattle.dsv_cli.specs.Headline.{AreKept};
+ghost use Rattle.dsv_cli.specs.SectionFiles.{IsFilesUnread};
 
 use crate::controller_file::read_controller;
-use crate::file_bytes::read_bytes;
 use dsv_base::{Files, NoMemory};
 use dsv_command::SectionNames;
-use dsv_reader::{Controller, FileRefusal, read};
+use dsv_reader::Controller;
 use dsv_report::{Stop, WhichFile};
 use std::alloc::Global;
 
@@ -19,6 +17,7 @@ use std::alloc::Global;
 pub(crate) struct SectionFiles {
     pub first: Controller,
     pub later: Vec<Controller>,
+    ghost few: { length later.items ≤ most_later },
 }
 
 /// The list with an item more.
@@ -27,37 +26,6 @@ pub(crate) fn push_item<T: Drop>(list: &mut Vec<T>, item: T) -> Result<(), NoMem
 {
     list.push(item)?;
     Ok(())
-}
-
-/// Why there is no answer where the text of a section's file is refused so.
-fn section_stop(section: u32, refusal: FileRefusal) -> Stop
-    ensures { result ≡ stop_of_section section refusal }
-{
-    match refusal {
-        FileRefusal::NoMemory => Stop::NoMemory,
-        refusal => Stop::SectionRefused { section, refusal },
-    }
-}
-
-/// The controller in the file of this name, which is that of this section, 1 or more.
-fn read_section<F: Files>(
-    alloc: Global,
-    name: &str,
-    section: u32,
-    files: &mut F,
-) -> Result<Controller, Stop>
-    ensures controller { IfOk result (λ c. CameOf ((F.seen files.old).held name.now)
-        (λ bytes. IsControllerOf bytes c)) }
-    ensures unread { IfErr result
-        (IsSectionUnread (F.seen files.old) (F.seen files.new) name.now section) }
-    ensures kept { AreKept (F.seen files.old) (F.seen files.new) }
-    ensures came { IfOk result (λ c. (F.seen files.old).came ≤ (F.seen files.new).came) }
-{
-    let bytes = read_bytes(alloc, name, WhichFile::Section(section), files)?;
-    match read(alloc, bytes.as_slice()) {
-        Ok(controller) => Ok(controller),
-        Err(refusal) => Err(section_stop(section, refusal)),
-    }
 }
 
 /// The controllers in the files of these names, of the sections from 1 on.
@@ -76,7 +44,8 @@ fn read_later<F: Files>(
 {
     let mut controllers = Vec::new(alloc);
     for (i, name) in names.iter().enumerate() {
-        let controller = read_section(alloc, name, i as u32 + 1, files)?;
+        let which = WhichFile::Section(i as u32 + 1);
+        let controller = read_controller(alloc, name, which, files)?;
         push_item(&mut controllers, controller)?;
     }
     Ok(controllers)
@@ -90,15 +59,15 @@ pub(crate) fn read_sections<F: Files>(
     later: &SectionNames,
     files: &mut F,
 ) -> Result<SectionFiles, Stop>
-    ensures controllers { IfOk result (λ found. HaveControllers (F.seen files.old) first.now
-        (map (λ name. name.now) later.now.items) found.first found.later.items) }
+    ensures first { IfOk result (λ found. IsFileOf (F.seen files.old) first.now found.first) }
+    ensures later { IfOk result (λ found. AreControllers (F.seen files.old)
+        (map (λ name. name.now) later.now.items) found.later.items) }
     ensures unread { IfErr result (IsFilesUnread (F.seen files.old) (F.seen files.new) first.now
         (map (λ name. name.now) later.now.items)) }
-    ensures few { IfOk result (λ found. length found.later.items ≤ most_later) }
     ensures kept { AreKept (F.seen files.old) (F.seen files.new) }
     ensures came { IfOk result (λ found. (F.seen files.old).came ≤ (F.seen files.new).came) }
 {
-    let controller = read_controller(alloc, first, files)?;
+    let controller = read_controller(alloc, first, WhichFile::Controller, files)?;
     let later = read_later(alloc, later.as_slice(), files)?;
     Ok(SectionFiles {
         first: controller,

@@ -7,7 +7,6 @@ pub mod ClapTurns
 pub mod ClapUses
 pub mod ClapWalk
 pub mod CommandLemmas
-pub mod FamilyLaws
 pub mod FaultLaws
 pub mod FileLaws
 pub mod InputLaws

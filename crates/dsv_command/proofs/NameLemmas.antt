@@ -4,7 +4,7 @@ use Rattle.std.proofs.lemmas.Bool.{lt-leb, le-leb}
 use Rattle.std.proofs.lemmas.List.{append_assoc}
 use Rattle.std.specs.Prelude.{nat_le, if◌then◌else◌}
 use Rattle.std.specs.List.{list_any}
-use Rattle.dsv_command.specs.Cascades.{most_later, is_nameless}
+use Rattle.dsv_command.specs.SectionNames.{most_later, is_nameless}
 
 -- what is read, and what is left of the text
 abbrev pub with_names : List (List ℕ) → List (List ℕ) → Option (List (List ℕ))

@@ -11,6 +11,7 @@ use Rattle.dsv_command.specs.Options.{command_options}
 use Rattle.dsv_command.specs.Parts.{PartView, flag, is_given, file_of, value_of, has_empty}
 use Rattle.dsv_command.specs.Reading.{parts_of}
 use Rattle.dsv_command.specs.Reasons.{Reason, apart, fault_of, marks_of}
+use Rattle.dsv_command.specs.Requests.{IsInTable, IsCertifiable}
 use Rattle.dsv_command.specs.Rules.{IsSeed, AreValues, HasOnly, AreFiles, IsTask, IsJobOf, IsCheckOf, IsGenerationOf, IsRequestOf, IsRequestLine}
 use Rattle.dsv_command.specs.Table.{JobFiles, controller, plant_loop, Task, decides, checks_form, seeks_form, Job, Request, does, checks, generates, kind_of, has_cell, may_certify, is_checked, task_options, all_task_options, file_options, all_file_options, all_design_options}
 use Rattle.dsv_command.specs.Values.{Values, values_in}
@@ -316,3 +317,26 @@ read_by arguments request (Some parts) e fault h = line_by arguments request par
 pub line_found : (arguments : List (List ℕ)) (request : Request) → asked_of arguments ≡ Ok request → IsRequestLine arguments request
 unfolding asked_of
 line_found arguments request h = read_by arguments request (parts_of command_options arguments) refl (fault_of (marks_of command_options arguments)) h
+
+-- ---- what is read stands in the table
+request_in_table : (parts : List PartView) (v : Values) (request : Request) → IsRequestOf parts v request → IsInTable request
+request_in_table parts v (does job) h = h.cell
+request_in_table parts v (checks files name) h = h.checked
+request_in_table parts v (generates seed count) h = tt
+
+pub line_in_table : (arguments : List (List ℕ)) (request : Request) → IsRequestLine arguments request → IsInTable request
+line_in_table arguments request h = request_in_table h.parts h.values request h.request_of_parts
+
+request_certifiable : (parts : List PartView) (v : Values) (request : Request) → IsRequestOf parts v request → IsCertifiable request
+request_certifiable parts v (does job) h = h.certificate
+request_certifiable parts v (checks files name) h = tt
+request_certifiable parts v (generates seed count) h = tt
+
+pub line_certifiable : (arguments : List (List ℕ)) (request : Request) → IsRequestLine arguments request → IsCertifiable request
+line_certifiable arguments request h = request_certifiable h.parts h.values request h.request_of_parts
+
+-- so does what arguments ask for
+pub asked_in_table : (arguments : List (List ℕ)) (request : Request) → asked_of arguments ≡ Ok request → IsInTable request × IsCertifiable request
+asked_in_table arguments request h =
+    let ruled : IsRequestLine arguments request = line_found arguments request h in
+    (line_in_table arguments request ruled, line_certifiable arguments request ruled)

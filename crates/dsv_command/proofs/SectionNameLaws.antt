@@ -5,7 +5,7 @@ use Rattle.std.specs.List.{All, list_any}
 use Rattle.std.proofs.lemmas.Bool.{leb-true, le-leb}
 use Rattle.std.proofs.lemmas.Bool.Decides.{nat_tests}
 use Rattle.std.proofs.lemmas.List.Elements.{All-nil, All-cons, All-head, All-tail}
-use Rattle.dsv_command.specs.Cascades.{most_later, is_nameless, names_of}
+use Rattle.dsv_command.specs.SectionNames.{most_later, is_nameless, names_of}
 use Rattle.dsv_command.specs.Inputs.{is_comma, comma, onto_first, pieces}
 use Rattle.dsv_command.specs.Rules.{with_commas, IsName, AreNames}
 use Rattle.dsv_command.proofs.InputLaws.{joined_pieces, one_piece, some_piece, same_byte, NoneFirst}

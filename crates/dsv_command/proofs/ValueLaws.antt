@@ -16,7 +16,7 @@ use Rattle.dsv_names.specs.Properties.{property_name, properties}
 use Rattle.dsv_names.specs.Realisations.{realisation_name, realisations}
 use Rattle.dsv_names.specs.Roundings.{rounding_name, roundings}
 use Rattle.dsv_names.proofs.NameLaws.{are_names-realisations, are_names-roundings, are_names-overflow_modes, are_names-properties}
-use Rattle.dsv_command.specs.Cascades.{names_of}
+use Rattle.dsv_command.specs.SectionNames.{names_of}
 use Rattle.dsv_command.specs.Inputs.{inputs_of}
 use Rattle.dsv_command.specs.Limits.{most_number_digits, most_samples, default_samples, most_conflicts, default_conflicts, most_controllers}
 use Rattle.dsv_command.specs.Parts.{PartView, value_of}

@@ -23,7 +23,7 @@ use Rattle.dsv_names.specs.Properties.{property_name}
 use Rattle.dsv_names.specs.Realisations.{realisation_name}
 use Rattle.dsv_names.specs.Roundings.{rounding_name}
 use Rattle.dsv_command.specs.Inputs.{most_inputs, most_digits, is_comma}
-use Rattle.dsv_command.specs.Cascades.{most_later}
+use Rattle.dsv_command.specs.SectionNames.{most_later}
 use Rattle.dsv_command.specs.Limits.{most_number_digits, most_samples, default_samples}
 use Rattle.dsv_command.specs.Limits.{most_conflicts, default_conflicts, most_controllers}
 use Rattle.dsv_command.specs.Limits.{default_controllers}

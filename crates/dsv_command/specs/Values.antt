@@ -13,7 +13,7 @@ use Rattle.dsv_names.specs.OverflowModes.{overflow_mode_name, overflow_modes}
 use Rattle.dsv_names.specs.Properties.{property_name, properties}
 use Rattle.dsv_names.specs.Realisations.{realisation_name, realisations}
 use Rattle.dsv_names.specs.Roundings.{rounding_name, roundings}
-use Rattle.dsv_command.specs.Cascades.{names_of}
+use Rattle.dsv_command.specs.SectionNames.{names_of}
 use Rattle.dsv_command.specs.Inputs.{inputs_of}
 use Rattle.dsv_command.specs.Limits.{most_number_digits, most_samples, most_conflicts}
 use Rattle.dsv_command.specs.Limits.{most_controllers, default_samples, default_conflicts}

@@ -1,5 +1,5 @@
 -- Scaffolding: what contracts see of the types of the code.
-use Rattle.std.specs.Prelude.{ℕ, Bool, List, Option, map, option_map}
+use Rattle.std.specs.Prelude.{ℕ, Bool, List, Option, Some, None, map, option_map}
 use Rattle.std.specs.Borrow.{Bor}
 use Rattle.dsv_command.specs.declared.options.CommandOption.{CommandOption}
 use Rattle.dsv_command.specs.declared.parts.Key.{Key}
@@ -14,6 +14,8 @@ use Rattle.dsv_command.specs.declared.marks.Step.{Step}
 use Rattle.dsv_command.specs.declared.marks.Walk.{Walk}
 use Rattle.dsv_command.specs.declared.reasons.Reason.{Reason}
 use Rattle.dsv_command.specs.declared.reasons.Reason.TheVariants as of_reason
+use Rattle.dsv_command.specs.declared.request.Line.{Line}
+use Rattle.dsv_command.specs.declared.request.Line.TheVariants as of_line
 use Rattle.dsv_command.specs.declared.table.Job.{Job}
 use Rattle.dsv_command.specs.declared.table.JobFiles.{JobFiles}
 use Rattle.dsv_command.specs.declared.table.JobFiles.TheVariants as of_files
@@ -125,6 +127,15 @@ request_view (of_request.Do job) = table.does (job_view job)
 request_view (of_request.Check files certificate) =
     table.checks (files_view files) certificate.now
 request_view (of_request.Generate g) = table.generates g.seed g.count
+
+-- what a line asks for, and the reason that it asks for
+abbrev pub asked_in : Line → Option table.Request
+asked_in (of_line.Asks request) = Some (request_view request)
+asked_in other = None
+
+abbrev pub explained_in : Line → Option reasons.Reason
+explained_in (of_line.Explains reason) = Some (reason_view reason)
+explained_in other = None
 
 abbrev pub numbers_view : Numbers → values.Numbers
 numbers_view numbers = record {

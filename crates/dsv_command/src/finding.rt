@@ -20,7 +20,6 @@ ghost use Rattle.dsv_command.specs.Views.{numbers_view, reason_view, request_vie
 ghost use Rattle.dsv_command.specs.Views.{values_view};
 
 use crate::arguments::Arguments;
-use crate::cascades::SectionNames;
 use crate::generation::Generation;
 use crate::inputs::Inputs;
 use crate::kind::Kind;
@@ -28,6 +27,7 @@ use crate::limits::DEFAULT_CONTROLLERS;
 use crate::parts::Part;
 use crate::question::{Controllers, RootQuestion, RunQuestion};
 use crate::reasons::Reason;
+use crate::section_names::SectionNames;
 use crate::table::{
     Job, JobFiles, Request, Task, all_job_options, all_task_options, has_cell, may_certify,
     task_options,

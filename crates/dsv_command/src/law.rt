@@ -6,7 +6,7 @@ ghost use Rattle.dsv_command.specs.Options.{command_options};
 ghost use Rattle.dsv_command.specs.Parts.{PartView};
 ghost use Rattle.dsv_command.specs.Reading.{parts_of};
 ghost use Rattle.dsv_command.specs.Reasons.{fault_of, marks_of};
-ghost use Rattle.dsv_command.specs.Requests.{family_of};
+ghost use Rattle.dsv_command.specs.Requests.{IsInTable, IsCertifiable};
 ghost use Rattle.dsv_command.specs.Rules.{Give, IsRequestLine};
 ghost use Rattle.dsv_command.specs.Table.{Request};
 
@@ -27,9 +27,11 @@ pub fn requests_are_read()
         → IsRequestLine arguments request → asked_of arguments ≡ Ok request }
     ensures ruled { (arguments : List (List ℕ)) (request : Request)
         → asked_of arguments ≡ Ok request → IsRequestLine arguments request }
-    // What is asked for so belongs to a family.
-    ensures known { (arguments : List (List ℕ)) (request : Request)
-        → IsRequestLine arguments request → IsSome (family_of request) }
+    // The table has what is asked for so.
+    ensures in_table { (arguments : List (List ℕ)) (request : Request)
+        → IsRequestLine arguments request → IsInTable request }
+    ensures certifiable { (arguments : List (List ℕ)) (request : Request)
+        → IsRequestLine arguments request → IsCertifiable request }
 {}
 
 /// Arguments that aren't allowed have a fault, the first of which is the reason.

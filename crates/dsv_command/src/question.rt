@@ -24,7 +24,7 @@ pub struct RunQuestion {
 
 /// How many samples a question is about: 1 to 64.
 #[derive(Clone, Copy)]
-pub struct Samples {
+pub(crate) struct Samples {
     pub count: u32,
     ghost some: { 1 ≤ count },
     ghost few: { count ≤ most_samples },

@@ -4,11 +4,11 @@ ghost use Rattle.dsv_command.specs.Finding.{all_job_options};
 ghost use Rattle.dsv_command.specs.Table.{all_task_options, has_cell, may_certify, task_options};
 ghost use Rattle.dsv_command.specs.Views.{names_view, task_view};
 
-use crate::cascades::SectionNames;
 use crate::generation::Generation;
 use crate::inputs::Inputs;
 use crate::kind::Kind;
 use crate::question::{Budget, RootQuestion, RunQuestion};
+use crate::section_names::SectionNames;
 use dsv_names::{Design, RootProperty, RunProperty};
 
 /// What is asked about, by the names of its files.

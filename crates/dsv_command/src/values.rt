@@ -2,7 +2,7 @@
 ghost use Rattle.std.specs.Prelude.{◌≡◌, ◌≤◌, codes, IfOk, IfSome, option_map};
 ghost use Rattle.std.specs.Result.{result_map_both};
 ghost use Rattle.dsv_names.specs.Names.{value_named};
-ghost use Rattle.dsv_command.specs.Cascades.{names_of};
+ghost use Rattle.dsv_command.specs.SectionNames.{names_of};
 ghost use Rattle.dsv_command.specs.Inputs.{inputs_of};
 ghost use Rattle.dsv_command.specs.Limits.{most_controllers};
 ghost use Rattle.dsv_command.specs.Values.{conflicts_in, design_in, number_up_to, numbers_in};
@@ -10,7 +10,6 @@ ghost use Rattle.dsv_command.specs.Values.{samples_in, seed_of, value_in, values
 ghost use Rattle.dsv_command.specs.Views.{names_view, numbers_view, reason_view, values_view};
 
 use crate::arguments::Arguments;
-use crate::cascades::{SectionNames, find_names};
 use crate::inputs::{Inputs, find_inputs};
 use crate::limits::{
     DEFAULT_CONFLICTS, DEFAULT_SAMPLES, MOST_CONFLICTS, MOST_CONTROLLERS, MOST_NUMBER_DIGITS,
@@ -18,6 +17,7 @@ use crate::limits::{
 };
 use crate::question::{Budget, Controllers, Samples};
 use crate::reasons::Reason;
+use crate::section_names::{SectionNames, find_names};
 use dsv_names::{Design, Named, OverflowMode, Property, Realisation, Rounding, find_named};
 use dsv_text::short_number;
 

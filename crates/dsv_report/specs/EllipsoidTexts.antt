@@ -1,23 +1,14 @@
 -- The texts of jobs of ellipsoids.
 use Rattle.std.specs.Prelude.{ℕ, pos, List, [], ◌∷◌, ◌++◌, codes, ℤ}
 use Rattle.std.specs.Fmt.{signed_decimal}
-use Rattle.dsv_names.specs.declared.property.Property.TheVariants.{OfRuns}
-use Rattle.dsv_names.specs.declared.property.RunProperty.TheVariants.{Overflow}
 use Rattle.dsv_certfile.specs.declared.ellipsoid.Ellipsoid.{Ellipsoid}
 use Rattle.dsv_certfile.specs.declared.fault.TextFault.{TextFault}
-use Rattle.dsv_command.specs.Ellipsoids.{AskedEllipsoid}
 use Rattle.dsv_ellipsoid.specs.declared.refusal.EllipsoidRefusal.{EllipsoidRefusal}
 use Rattle.dsv_ellipsoid.specs.declared.refusal.EllipsoidRefusal.TheVariants as refusal
 use Rattle.dsv_report.specs.Certificates.{fault_name}
 use Rattle.dsv_report.specs.Forms.{numbers_line, rows_text}
 use Rattle.dsv_report.specs.Fragments.{concatenation}
-use Rattle.dsv_report.specs.Lines.{property_text, realisation_text}
 use Rattle.dsv_report.specs.declared.stop.CertificateFault.TheVariants as fault
-
--- what a job asked for: that no list of any length overflows
-abbrev pub ellipsoid_job_text : AskedEllipsoid → List ℕ
-ellipsoid_job_text job = property_text (OfRuns Overflow)
-    ++ (realisation_text job.design.realisation ++ codes " unbounded\n")
 
 -- the level, and the greatest size of an output in the ellipsoid
 abbrev pub level_text : Ellipsoid → List ℕ

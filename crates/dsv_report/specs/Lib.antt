@@ -1,11 +1,11 @@
 pub mod AllowedViews
-pub mod AnyJobs
 pub mod CascadeTexts
 pub mod Certificates
 pub mod EllipsoidTexts
 pub mod Forms
 pub mod Fragments
 pub mod Gains
+pub mod Headings
 pub mod Lines
 pub mod LoopTexts
 pub mod Output

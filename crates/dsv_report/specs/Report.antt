@@ -1,11 +1,9 @@
 -- The text of an answer to a job, and its status.
 use Rattle.std.specs.Prelude.{ℕ, pos, List, [], ◌∷◌, ◌++◌}
-use Rattle.std.specs.Prelude.{length, take, filter, codes, Option, Some, None, Ok, Err, ℤ}
-use Rattle.std.specs.Prelude.{Bool, true, false, if◌then◌else◌}
+use Rattle.std.specs.Prelude.{length, take, filter, codes, Option, Ok, Err, ℤ}
+use Rattle.std.specs.Prelude.{Bool, true, false}
 use Rattle.std.specs.List.{flat_map}
 use Rattle.std.specs.Fmt.{signed_decimal}
-use Rattle.dsv_names.specs.declared.property.Property.TheVariants.{OfRuns, OfRoots, Timing}
-use Rattle.dsv_names.specs.declared.property.RunProperty.TheVariants.{Overflow}
 use Rattle.dsv_base.specs.Text.{spaced_text}
 use Rattle.dsv_cascade.specs.declared.stability.CascadeForms.{CascadeForms}
 use Rattle.dsv_cascade.specs.declared.stability.CascadeForms.TheVariants as forms
@@ -23,31 +21,27 @@ use Rattle.dsv_template.specs.declared.candidate.Inequality.{Inequality}
 use Rattle.dsv_template.specs.declared.kept.KeptSet.{KeptSet}
 use Rattle.dsv_template.specs.declared.verdict.Why.{Why}
 use Rattle.dsv_template.specs.declared.verdict.Why.TheVariants as why
-use Rattle.dsv_command.specs.Jobs.{Task, decides, checks_time, writes, searches, seeks_set}
-use Rattle.dsv_command.specs.Jobs.{measures_gain, simulates}
-use Rattle.dsv_command.specs.Cascades.{task_alone}
 use Rattle.dsv_report.specs.Certificates.{checked_text, certificate_text}
-use Rattle.dsv_report.specs.AnyJobs.{AskedJob, of_controller, of_cascade, of_states}
-use Rattle.dsv_report.specs.AnyJobs.{of_ellipsoid, of_loop, of_cascade_loop}
-use Rattle.dsv_report.specs.CascadeTexts.{sections_text, section_line, forms_text}
+use Rattle.dsv_report.specs.CascadeTexts.{section_line, forms_text}
 use Rattle.dsv_report.specs.CascadeTexts.{section_tables_text, cascade_refusal_text}
 use Rattle.dsv_certfile.specs.Ellipsoids.{ellipsoid_text}
-use Rattle.dsv_report.specs.EllipsoidTexts.{ellipsoid_job_text, in_ellipsoid_text}
+use Rattle.dsv_report.specs.EllipsoidTexts.{in_ellipsoid_text}
 use Rattle.dsv_report.specs.EllipsoidTexts.{no_offer_text, offer_fault_text}
 use Rattle.dsv_report.specs.EllipsoidTexts.{ellipsoid_refusal_text}
 use Rattle.dsv_report.specs.Forms.{numbers_line, fall_text, form_text, start_text}
 use Rattle.dsv_report.specs.Fragments.{concatenation}
 use Rattle.dsv_report.specs.Gains.{gain_text, error_text, out_of_range_text, too_deep_text}
-use Rattle.dsv_report.specs.Lines.{property_text, realisation_text, numbered, number_line}
+use Rattle.dsv_report.specs.Headings.{HeadingView, heading, verdict_status}
+use Rattle.dsv_report.specs.Lines.{numbered, number_line}
 use Rattle.dsv_report.specs.Lines.{numbered_lines}
-use Rattle.dsv_report.specs.LoopTexts.{loop_job_text, cascade_loop_job_text, plant_line}
+use Rattle.dsv_report.specs.LoopTexts.{plant_line}
 use Rattle.dsv_report.specs.LoopTexts.{loop_refusal_text}
 use Rattle.dsv_poly_table.specs.declared.sections.SectionTables.{SectionTables}
 use Rattle.dsv_poly_table.specs.declared.sections.SectionTables.TheVariants as section_tables
 use Rattle.dsv_table.specs.declared.verdict.TableVerdict.{TableVerdict}
 use Rattle.dsv_table.specs.declared.verdict.TableVerdict.TheVariants as table
 use Rattle.dsv_report.specs.Refusals.{file_text, quant_text, input_text}
-use Rattle.dsv_report.specs.StateTexts.{state_job_text, no_state_form_text, state_text}
+use Rattle.dsv_report.specs.StateTexts.{no_state_form_text, state_text}
 use Rattle.dsv_report.specs.StateTexts.{state_quant_text}
 use Rattle.dsv_report.specs.Stops.{Outcome}
 use Rattle.dsv_report.specs.Tables.{table_text}
@@ -56,82 +50,11 @@ use Rattle.dsv_report.specs.declared.answers.Answer.{Answer}
 use Rattle.dsv_report.specs.declared.answers.Answer.TheVariants as answer
 use Rattle.dsv_report.specs.declared.stop.Stop.{Stop}
 use Rattle.dsv_report.specs.declared.stop.Stop.TheVariants as stop
+use Rattle.dsv_report.specs.declared.stop.WhichFile.{WhichFile}
 use Rattle.dsv_report.specs.declared.stop.WhichFile.TheVariants as file
 use Rattle.dsv_report.specs.declared.verdict.Verdict.{Verdict}
 use Rattle.dsv_report.specs.declared.verdict.Verdict.TheVariants.{Successful, Failed, Inconclusive}
 use Rattle.dsv_report.specs.declared.verdict.Verdict.TheVariants.{Simulation, Plain}
-
--- ---- headings
-unfoldable pub successful : List ℕ
-successful = codes "VERIFICATION SUCCESSFUL\n"
-
-unfoldable pub failed : List ℕ
-failed = codes "VERIFICATION FAILED\n"
-
-unfoldable pub inconclusive : List ℕ
-inconclusive = codes "VERIFICATION INCONCLUSIVE\n"
-
-unfoldable pub simulation : List ℕ
-simulation = codes "SIMULATION\n"
-
--- what is asked of the controller, before the realisation
-abbrev pub task_text : Task → List ℕ
-task_text (decides property schur_cohn) = property_text (OfRoots property)
-task_text checks_time = property_text Timing
-task_text (writes property samples) = property_text (OfRuns property)
-task_text (searches property samples conflicts) = property_text (OfRuns property)
-task_text (seeks_set conflicts) = property_text (OfRuns Overflow)
-task_text measures_gain = property_text (OfRuns Overflow)
-task_text (simulates inputs) = []
-
--- how many samples are asked for, or that there is no end to them and how it is decided, up to the
--- end of the line
-abbrev pub extent_text : Task → List ℕ
-extent_text (decides property schur_cohn) = codes "\n"
-extent_text checks_time = codes "\n"
-extent_text (writes property samples) = number_line (codes " samples ") samples
-extent_text (searches property samples conflicts) = number_line (codes " samples ") samples
-extent_text (seeks_set conflicts) = codes " unbounded\n"
-extent_text measures_gain = codes " gain\n"
-extent_text (simulates inputs) = codes "\n"
-
--- what the job asked for
-abbrev pub job_text : AskedJob → List ℕ
-job_text (of_controller job) = task_text job.task
-    ++ (realisation_text job.design.realisation ++ extent_text job.task)
-job_text (of_cascade job) = task_text (task_alone job.task)
-    ++ (realisation_text job.design.realisation
-    ++ (sections_text job.later ++ extent_text (task_alone job.task)))
-job_text (of_states job states) = state_job_text job states
-job_text (of_ellipsoid job) = ellipsoid_job_text job
-job_text (of_loop job) = loop_job_text job
-job_text (of_cascade_loop job) = cascade_loop_job_text job
-
--- ---- verdicts
--- the line of a verdict; a plain text has none
-abbrev pub verdict_text : Verdict → List ℕ
-verdict_text Successful = successful
-verdict_text Failed = failed
-verdict_text Inconclusive = inconclusive
-verdict_text Simulation = simulation
-verdict_text Plain = []
-
-abbrev pub verdict_status : Verdict → ℕ
-verdict_status Successful = 0
-verdict_status Failed = 10
-verdict_status Inconclusive = 20
-verdict_status Simulation = 0
-verdict_status Plain = 0
-
-abbrev pub has_heading : Verdict → Bool
-has_heading Plain = false
-has_heading _ = true
-
--- the verdict and what the job asked for; a plain text has none, and without a job there is none
-abbrev pub heading : Verdict → Option AskedJob → List ℕ
-heading verdict None = []
-heading verdict (Some job) =
-    if has_heading verdict then verdict_text verdict ++ job_text job else []
 
 -- ---- polynomials that no form decides
 abbrev pub no_zeros_text : List ℕ
@@ -328,26 +251,27 @@ body_text (answer.Generated found) = tally_text found
 body_text (answer.Checked certified error) = checked_text certified error
 
 -- the text of an answer to a job, or to a check or a generation, which are no jobs
-abbrev pub answer_text : Option AskedJob → Answer → List ℕ
+abbrev pub answer_text : Option HeadingView → Answer → List ℕ
 answer_text job found = heading (verdict_of found) job ++ body_text found
 
 abbrev pub too_long_text : List ℕ
 too_long_text = codes "FILE REFUSED 12 TOO_LONG at 65536\n"
+
+-- which file is meant, before what is said of it: nothing of the controller's
+abbrev pub place_text : WhichFile → List ℕ
+place_text (file.Section section) = section_line section
+place_text file.Plant = plant_line
+place_text which = []
 
 -- the text where there is no answer
 abbrev pub stop_text : Stop → List ℕ
 stop_text (stop.JobSize size) = size_text size
 stop_text (stop.CertificateRefused line fault) = certificate_text line fault
 stop_text stop.Usage = codes "USAGE\n"
-stop_text (stop.FileRefused r) = file_text r
-stop_text stop.FileTooLong = too_long_text
-stop_text (stop.QuantRefused r) = quant_text r
-stop_text (stop.SectionRefused section r) = section_line section ++ file_text r
-stop_text (stop.SectionTooLong section) = section_line section ++ too_long_text
-stop_text (stop.SectionQuant section r) = section_line section ++ quant_text r
+stop_text (stop.FileRefused which r) = place_text which ++ file_text r
+stop_text (stop.FileTooLong which) = place_text which ++ too_long_text
+stop_text (stop.QuantRefused which r) = place_text which ++ quant_text r
 stop_text (stop.CascadeRefused r) = cascade_refusal_text r
-stop_text (stop.PlantRefused r) = plant_line ++ file_text r
-stop_text stop.PlantTooLong = plant_line ++ too_long_text
 stop_text (stop.LoopRefused r) = loop_refusal_text r
 stop_text (stop.StateRefused r) = state_text r
 stop_text (stop.StateQuantRefused r) = state_quant_text r
@@ -369,15 +293,10 @@ abbrev pub stop_status : Stop → ℕ
 stop_status (stop.JobSize size) = 6
 stop_status (stop.CertificateRefused line fault) = 7
 stop_status stop.Usage = 1
-stop_status (stop.FileRefused r) = 2
-stop_status stop.FileTooLong = 2
-stop_status (stop.QuantRefused r) = 2
-stop_status (stop.SectionRefused section r) = 2
-stop_status (stop.SectionTooLong section) = 2
-stop_status (stop.SectionQuant section r) = 2
+stop_status (stop.FileRefused which r) = 2
+stop_status (stop.FileTooLong which) = 2
+stop_status (stop.QuantRefused which r) = 2
 stop_status (stop.CascadeRefused r) = 2
-stop_status (stop.PlantRefused r) = 2
-stop_status stop.PlantTooLong = 2
 stop_status (stop.LoopRefused r) = 2
 stop_status (stop.StateRefused r) = 2
 stop_status (stop.StateQuantRefused r) = 2

@@ -1,44 +1,13 @@
 -- The texts of what is found of state-space controllers, and of why their files are refused.
-use Rattle.std.specs.Prelude.{ℕ, List, [], ◌∷◌, ◌++◌, codes, pos}
+use Rattle.std.specs.Prelude.{ℕ, List, [], ◌∷◌, codes, pos}
 use Rattle.std.specs.Fmt.{signed_decimal}
-use Rattle.dsv_names.specs.declared.property.Property.TheVariants.{OfRuns, OfRoots}
-use Rattle.dsv_names.specs.declared.property.RootProperty.TheVariants.{Stability}
-use Rattle.dsv_names.specs.declared.property.RunProperty.TheVariants.{Overflow}
 use Rattle.dsv_state_file.specs.declared.refusal.StateRefusal.{StateRefusal}
 use Rattle.dsv_state_file.specs.declared.refusal.StateRefusal.TheVariants as refusal
 use Rattle.dsv_state_space.specs.Places.{place_name}
 use Rattle.dsv_state_space.specs.declared.refusal.StateQuantRefusal.{StateQuantRefusal}
 use Rattle.dsv_state_space.specs.declared.refusal.StateQuantRefusal.TheVariants as quant
-use Rattle.dsv_command.specs.States.{StateTask, checks_form, seeks_form, searches_states}
-use Rattle.dsv_command.specs.States.{decides_states, measures_states, simulates_states, AskedStates}
 use Rattle.dsv_report.specs.Fragments.{concatenation}
-use Rattle.dsv_report.specs.Lines.{property_text, numbered, number_line}
-
--- ---- headings
--- what is asked of the controller, before how many states it has
-abbrev pub state_task_text : StateTask → List ℕ
-state_task_text (checks_form name) = property_text (OfRoots Stability)
-state_task_text (seeks_form certified) = property_text (OfRoots Stability)
-state_task_text decides_states = property_text (OfRoots Stability)
-state_task_text (searches_states property samples conflicts) = property_text (OfRuns property)
-state_task_text measures_states = property_text (OfRuns Overflow)
-state_task_text (simulates_states inputs) = []
-
--- how many samples are asked for, or that the gain decides over runs of any length, up to the end
--- of the line
-abbrev pub state_extent_text : StateTask → List ℕ
-state_extent_text (checks_form name) = codes "\n"
-state_extent_text (seeks_form certified) = codes "\n"
-state_extent_text decides_states = codes "\n"
-state_extent_text (searches_states property samples conflicts) =
-    number_line (codes " samples ") samples
-state_extent_text measures_states = codes " gain\n"
-state_extent_text (simulates_states inputs) = codes "\n"
-
--- what the job asked for, of a controller with so many states
-abbrev pub state_job_text : AskedStates → ℕ → List ℕ
-state_job_text job states = state_task_text job.task
-    ++ (numbered (codes "state-space ") states ++ state_extent_text job.task)
+use Rattle.dsv_report.specs.Lines.{number_line}
 
 -- ---- forms
 -- that no form was found

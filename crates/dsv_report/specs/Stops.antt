@@ -10,15 +10,16 @@ use Rattle.dsv_report.specs.declared.answers.Answer.{Answer}
 use Rattle.dsv_report.specs.declared.stop.CertificateFault.TheVariants as fault
 use Rattle.dsv_report.specs.declared.stop.Stop.{Stop}
 use Rattle.dsv_report.specs.declared.stop.Stop.TheVariants as stop
+use Rattle.dsv_report.specs.declared.stop.WhichFile.{WhichFile}
 
 -- an answer, or why there is none
 abbrev pub Outcome : Type 0
 Outcome = Result Answer Stop
 
--- why there is none where the controller's file is refused so: want of memory is no fault of it
-abbrev pub stop_of_file : FileRefusal → Stop
-stop_of_file file.NoMemory = stop.NoMemory
-stop_of_file refusal = stop.FileRefused refusal
+-- why there is none where this file is refused so: want of memory is no fault of it
+abbrev pub stop_of_file : WhichFile → FileRefusal → Stop
+stop_of_file which file.NoMemory = stop.NoMemory
+stop_of_file which refusal = stop.FileRefused which refusal
 
 -- and where the text of a certificate is
 abbrev pub stop_of_text : CertRefusal → Stop

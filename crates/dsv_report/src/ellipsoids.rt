@@ -1,8 +1,7 @@
 // Writes what is found of ellipsoids, and why one is refused, with no memory.
 ghost use Rattle.std.specs.Prelude.{◌≡◌, ◌≤◌};
 ghost use Rattle.dsv_base.specs.Taking.{Writes};
-ghost use Rattle.dsv_command.specs.Asking.{asked_ellipsoid};
-ghost use Rattle.dsv_report.specs.EllipsoidTexts.{ellipsoid_job_text, level_text};
+ghost use Rattle.dsv_report.specs.EllipsoidTexts.{level_text};
 ghost use Rattle.dsv_report.specs.EllipsoidTexts.{in_ellipsoid_text, no_offer_text};
 ghost use Rattle.dsv_report.specs.EllipsoidTexts.{offer_refused, offer_fault_text};
 ghost use Rattle.dsv_report.specs.EllipsoidTexts.{ellipsoid_code, ellipsoid_refusal_text};
@@ -10,25 +9,10 @@ ghost use Rattle.dsv_report.specs.EllipsoidTexts.{ellipsoid_code, ellipsoid_refu
 use crate::certificates::fault_name;
 use crate::forms::put_rows;
 use crate::fragments::{Fragment, put_fragments};
-use crate::lines::{put_property, put_realisation};
 use crate::stop::CertificateFault;
 use dsv_base::{Failed, Sink, put_all};
 use dsv_certfile::{Ellipsoid, TextFault};
-use dsv_command::EllipsoidJob;
 use dsv_ellipsoid::EllipsoidRefusal;
-use dsv_names::{Property, RunProperty};
-
-// ---- headings
-
-/// Writes what a job asked for.
-pub(crate) fn put_ellipsoid_job<K: Sink>(sink: &mut K, job: &EllipsoidJob) -> Result<(), Failed>
-    ensures { Writes (K.seen sink.old) (K.seen sink.new) result
-        (ellipsoid_job_text (asked_ellipsoid job.now)) }
-{
-    put_property(sink, Property::OfRuns(RunProperty::Overflow))?;
-    put_realisation(sink, job.design.realisation)?;
-    put_all(sink, b" unbounded\n")
-}
 
 // ---- ellipsoids
 

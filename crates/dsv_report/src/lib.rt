@@ -2,13 +2,13 @@
 #![tactic(auto)]
 
 mod answers;
-mod any_job;
 mod cascades;
 mod certificates;
 mod ellipsoids;
 mod forms;
 mod fragments;
 mod gains;
+mod headings;
 mod lines;
 mod loops;
 mod output;
@@ -23,7 +23,7 @@ mod tallies;
 mod verdict;
 
 pub use answers::{Answer, OutputError};
-pub use any_job::AnyJob;
+pub use headings::Heading;
 pub use output::put_output;
 pub use reasons::put_reason;
 pub use report::status_of;

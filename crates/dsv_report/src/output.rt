@@ -1,27 +1,20 @@
 // Writes what is asked for of an answer, with no memory.
-ghost use Rattle.std.specs.Prelude.{◌≡◌, Some, IfSome, IfOk, OnOk};
+ghost use Rattle.std.specs.Prelude.{◌≡◌, Some, IfSome, IfOk, Ok, OnOk, option_map};
 ghost use Rattle.dsv_base.specs.Taking.{Writes};
-ghost use Rattle.dsv_command.specs.Asking.{asked_of, asked_task, asked_state_task, asked_states};
-ghost use Rattle.dsv_command.specs.Asking.{asked_loop};
-ghost use Rattle.dsv_report.specs.Output.{job_with, hints_of, invariant_of, gain_certificate};
-ghost use Rattle.dsv_report.specs.Output.{roots_of, offer_in};
-ghost use Rattle.dsv_report.specs.Output.{certificate_for, answer_output, text_or, output_of};
-ghost use Rattle.dsv_report.specs.Output.{answer_certificate, certificate_written};
-ghost use Rattle.dsv_report.specs.Output.{state_job_with, state_falls_of, wants_certificate};
-ghost use Rattle.dsv_report.specs.Output.{loop_job_with, table_of};
-ghost use Rattle.dsv_report.specs.AnyJobs.{asked_in, of_controller, of_states, of_loop};
-ghost use Rattle.dsv_report.specs.Printing.{HasPlaces};
-ghost use Rattle.dsv_report.specs.Report.{answer_text};
-ghost use Rattle.dsv_certfile.specs.Lawful.{IsWords};
+ghost use Rattle.dsv_certfile.specs.Lawful.{IsSize, IsWords};
 ghost use Rattle.dsv_certfile.specs.Texts.{certificate_text};
 ghost use Rattle.dsv_certfile.specs.Typed.{IsTyped, IsTypedBody};
 ghost use Rattle.dsv_certfile.specs.declared.certificate.Certificate.TheVariants as certificate;
-ghost use Rattle.dsv_certfile.specs.declared.job.Size.TheVariants as size;
-ghost use Rattle.dsv_names.specs.declared.property.Property.TheVariants.{OfRuns, OfRoots};
-ghost use Rattle.dsv_names.specs.declared.property.RunProperty.TheVariants.{Overflow};
+ghost use Rattle.dsv_command.specs.Views.{files_view, job_view, task_view};
+ghost use Rattle.dsv_report.specs.Headings.{heading_view};
+ghost use Rattle.dsv_report.specs.Output.{certificate_for, certificate_written, certified_design};
+ghost use Rattle.dsv_report.specs.Output.{certified_job, certified_size, offer_in, output_of};
+ghost use Rattle.dsv_report.specs.Output.{text_or};
+ghost use Rattle.dsv_report.specs.Printing.{HasPlaces};
+ghost use Rattle.dsv_report.specs.Report.{answer_text};
 
 use crate::answers::{Answer, OutputError};
-use crate::any_job::AnyJob;
+use crate::headings::{Heading, property_of};
 use crate::report::put_answer;
 use crate::stop::Stop;
 use crate::stops::put_stop;
@@ -30,73 +23,47 @@ use dsv_certfile::{
     CertWords, CertifiedJob, Size, write_error, write_falls, write_gain, write_hints,
     write_invariant, write_table,
 };
-use dsv_command::{Job, LoopJob, RunQuestion, StateJob, StateTask, Task};
-use dsv_names::{Design, Property, Realisation, RootProperty, RunProperty};
+use dsv_command::{Job, JobFiles, Task};
+use dsv_names::{Design, Property, Realisation};
 
-/// The job of a certificate for a controller that is realised by a design, and of whose words this
-/// is said.
-fn job_with(design: Design, words: CertWords, property: Property, size: Size) -> CertifiedJob
-    ensures { result ≡ job_with design words property size }
+/// The design in the job of a certificate: of that of a state-space controller its modes alone
+/// count.
+fn certified_design(files: &JobFiles, design: Design) -> Design
+    ensures { result ≡ certified_design (files_view files.now) design }
+{
+    match files {
+        JobFiles::States(_) => Design {
+            realisation: Realisation::Dfi,
+            ..design
+        },
+        _ => design,
+    }
+}
+
+/// The size in the job of a certificate.
+fn certified_size(files: &JobFiles, task: &Task) -> Size
+    ensures size { result ≡ certified_size (files_view files.now) (task_view task.now) }
+    ensures lawful { IsSize result }
+{
+    match (files, task) {
+        (JobFiles::Loop { .. }, _) => Size::OfLoop,
+        (_, Task::Search(question, _)) => Size::Samples(question.samples),
+        (_, Task::SeekSet(_) | Task::MeasureGain) => Size::Unbounded,
+        _ => Size::NoSize,
+    }
+}
+
+/// The job of a certificate, of whose words this is said.
+fn certified_job(job: &Job, words: CertWords, property: Property) -> CertifiedJob
+    ensures job { result ≡ certified_job (job_view job.now) words property }
+    ensures size { IsSize result.size }
+    ensures words { result.words ≡ words }
 {
     CertifiedJob {
         property,
-        design,
+        design: certified_design(&job.files, job.design),
         words,
-        size,
-    }
-}
-
-/// Writes the certificate of an answer to a question of runs, or its report where it has none.
-fn put_hints<K: Sink>(
-    sink: &mut K,
-    job: &Job,
-    words: CertWords,
-    question: &RunQuestion,
-    answer: &Answer,
-) -> Result<(), Failed>
-    requires places { HasPlaces answer.now }
-    requires words { IsWords words }
-    ensures text { Writes (K.seen sink.old) (K.seen sink.new) result
-        (text_or (hints_of (job_with job.now.design words (OfRuns question.now.property)
-        (size.Samples question.now.samples)) answer.now)
-        (answer_text (Some (of_controller (asked_of job.now))) answer.now)) }
-    ensures typed { OnOk result (IfSome
-        (hints_of (job_with job.now.design words (OfRuns question.now.property)
-        (size.Samples question.now.samples)) answer.now) IsTyped) }
-{
-    match answer {
-        Answer::Never { log } => {
-            let size = Size::Samples(question.samples);
-            let certified = job_with(job.design, words, Property::OfRuns(question.property), size);
-            write_hints(sink, &certified, log)
-        }
-        _ => put_answer(sink, Some(AnyJob::OfController(job)), answer),
-    }
-}
-
-/// Writes the certificate of an answer on runs of any length, or its report where it has none.
-fn put_invariant<K: Sink>(
-    sink: &mut K,
-    job: &Job,
-    words: CertWords,
-    answer: &Answer,
-) -> Result<(), Failed>
-    requires places { HasPlaces answer.now }
-    requires words { IsWords words }
-    ensures text { Writes (K.seen sink.old) (K.seen sink.new) result
-        (text_or (invariant_of (job_with job.now.design words (OfRuns Overflow) size.Unbounded)
-        answer.now) (answer_text (Some (of_controller (asked_of job.now))) answer.now)) }
-    ensures typed { OnOk result (IfSome
-        (invariant_of (job_with job.now.design words (OfRuns Overflow) size.Unbounded) answer.now)
-        IsTyped) }
-{
-    match answer {
-        Answer::Always { candidate, logs } => {
-            let property = Property::OfRuns(RunProperty::Overflow);
-            let certified = job_with(job.design, words, property, Size::Unbounded);
-            write_invariant(sink, &certified, candidate, logs)
-        }
-        _ => put_answer(sink, Some(AnyJob::OfController(job)), answer),
+        size: certified_size(&job.files, &job.task),
     }
 }
 
@@ -119,162 +86,33 @@ fn put_gain_certificate<K: Sink>(
     }
 }
 
-/// Writes the certificate of an answer by the gain, or its report where it has none.
-fn put_gain_or_answer<K: Sink>(
-    sink: &mut K,
-    job: &Job,
-    words: CertWords,
-    answer: &Answer,
-) -> Result<(), Failed>
-    requires places { HasPlaces answer.now }
-    requires words { IsWords words }
-    ensures text { Writes (K.seen sink.old) (K.seen sink.new) result
-        (text_or (gain_certificate (job_with job.now.design words (OfRuns Overflow) size.Unbounded)
-        answer.now) (answer_text (Some (of_controller (asked_of job.now))) answer.now)) }
-    ensures typed { OnOk result (IfSome
-        (gain_certificate (job_with job.now.design words (OfRuns Overflow) size.Unbounded)
-        answer.now) IsTyped) }
-{
-    match answer {
-        Answer::InRanges { gain, error } => {
-            let property = Property::OfRuns(RunProperty::Overflow);
-            let certified = job_with(job.design, words, property, Size::Unbounded);
-            put_gain_certificate(sink, &certified, gain.depth, error)
-        }
-        _ => put_answer(sink, Some(AnyJob::OfController(job)), answer),
-    }
-}
-
-/// Writes the certificate of an answer on roots, or its report where it has none.
-fn put_roots<K: Sink>(
-    sink: &mut K,
-    job: &Job,
-    words: CertWords,
-    property: RootProperty,
-    answer: &Answer,
-) -> Result<(), Failed>
-    requires places { HasPlaces answer.now }
-    requires words { IsWords words }
-    ensures text { Writes (K.seen sink.old) (K.seen sink.new) result
-        (text_or (roots_of (job_with job.now.design words (OfRoots property) size.NoSize)
-        answer.now)
-        (answer_text (Some (of_controller (asked_of job.now))) answer.now)) }
-    ensures typed { OnOk result (IfSome
-        (roots_of (job_with job.now.design words (OfRoots property) size.NoSize) answer.now)
-        IsTyped) }
-{
-    let certified = job_with(job.design, words, Property::OfRoots(property), Size::NoSize);
-    match answer {
-        Answer::Falls { offer, .. } => write_falls(sink, &certified, offer),
-        Answer::OfTable(found) if found.verdict.is_inside() => {
-            write_table(sink, &certified, &found.poly)
-        }
-        _ => put_answer(sink, Some(AnyJob::OfController(job)), answer),
-    }
-}
-
 /// Writes the certificate of an answer, or its report where it has none.
 fn put_certificate<K: Sink>(
     sink: &mut K,
-    job: &Job,
-    words: CertWords,
+    asked: Heading,
+    certified: &CertifiedJob,
     answer: &Answer,
 ) -> Result<(), Failed>
     requires places { HasPlaces answer.now }
-    requires words { IsWords words }
+    requires words { IsWords certified.now.words }
+    requires size { IsSize certified.now.size }
     ensures text { Writes (K.seen sink.old) (K.seen sink.new) result
-        (text_or (certificate_for job.now.design words (asked_task job.now.task) answer.now)
-        (answer_text (Some (of_controller (asked_of job.now))) answer.now)) }
-    ensures typed { OnOk result (IfSome
-        (certificate_for job.now.design words (asked_task job.now.task) answer.now) IsTyped) }
-{
-    match &job.task {
-        Task::Search(question, _) => put_hints(sink, job, words, question, answer),
-        Task::SeekSet(_) => put_invariant(sink, job, words, answer),
-        Task::MeasureGain => put_gain_or_answer(sink, job, words, answer),
-        Task::Decide(question) => put_roots(sink, job, words, question.property, answer),
-        Task::CheckTime | Task::WriteFormula(_) | Task::Simulate(_) => {
-            put_answer(sink, Some(AnyJob::OfController(job)), answer)
-        }
-    }
-}
-
-/// The job of a certificate for a state-space controller; of the design its modes alone count.
-fn state_job_with(job: &StateJob, words: CertWords) -> CertifiedJob
-    ensures { result ≡ state_job_with (asked_states job.now) words }
-{
-    let design = Design {
-        realisation: Realisation::Dfi,
-        rounding: job.rounding,
-        overflow: job.overflow,
-    };
-    let property = Property::OfRoots(RootProperty::Stability);
-    job_with(design, words, property, Size::NoSize)
-}
-
-/// Whether a certificate of the answer to the task is wanted.
-fn wants_certificate(task: &StateTask) -> bool
-    ensures { result ≡ wants_certificate (asked_state_task task.now) }
-{
-    match task {
-        StateTask::SeekForm { certified } => *certified,
-        _ => false,
-    }
-}
-
-/// Writes the certificate of an answer on a controller with so many states, or its report where it
-/// has none.
-fn put_state_certificate<K: Sink>(
-    sink: &mut K,
-    job: &StateJob,
-    states: u32,
-    words: CertWords,
-    answer: &Answer,
-) -> Result<(), Failed>
-    requires places { HasPlaces answer.now }
-    requires words { IsWords words }
-    ensures text { Writes (K.seen sink.old) (K.seen sink.new) result
-        (text_or (state_falls_of (state_job_with (asked_states job.now) words) answer.now)
-        (answer_text (Some (of_states (asked_states job.now) states)) answer.now)) }
-    ensures typed { OnOk result (IfSome
-        (state_falls_of (state_job_with (asked_states job.now) words) answer.now) IsTyped) }
+        (text_or (certificate_for certified.now answer.now)
+        (answer_text (Some (heading_view asked.entry)) answer.now)) }
+    ensures typed { OnOk result (IfSome (certificate_for certified.now answer.now) IsTyped) }
 {
     match answer {
-        Answer::StateFalls { offer, .. } => {
-            write_falls(sink, &state_job_with(job, words), offer)
+        Answer::Never { log } => write_hints(sink, certified, log),
+        Answer::Always { candidate, logs } => write_invariant(sink, certified, candidate, logs),
+        Answer::InRanges { gain, error } => {
+            put_gain_certificate(sink, certified, gain.depth, error)
         }
-        _ => put_answer(sink, Some(AnyJob::OfStates { job, states }), answer),
-    }
-}
-
-/// The job of a certificate for the loop of a controller with a plant.
-fn loop_job_with(job: &LoopJob, words: CertWords) -> CertifiedJob
-    ensures { result ≡ loop_job_with (asked_loop job.now) words }
-{
-    let property = Property::OfRoots(RootProperty::Stability);
-    job_with(job.design, words, property, Size::OfLoop)
-}
-
-/// Writes the certificate of an answer on a loop, or its report where it has none.
-fn put_loop_certificate<K: Sink>(
-    sink: &mut K,
-    job: &LoopJob,
-    words: CertWords,
-    answer: &Answer,
-) -> Result<(), Failed>
-    requires places { HasPlaces answer.now }
-    requires words { IsWords words }
-    ensures text { Writes (K.seen sink.old) (K.seen sink.new) result
-        (text_or (table_of (loop_job_with (asked_loop job.now) words) answer.now)
-        (answer_text (Some (of_loop (asked_loop job.now))) answer.now)) }
-    ensures typed { OnOk result (IfSome
-        (table_of (loop_job_with (asked_loop job.now) words) answer.now) IsTyped) }
-{
-    match answer {
+        Answer::Falls { offer, .. } => write_falls(sink, certified, offer),
+        Answer::StateFalls { offer, .. } => write_falls(sink, certified, offer),
         Answer::OfTable(found) if found.verdict.is_inside() => {
-            write_table(sink, &loop_job_with(job, words), &found.poly)
+            write_table(sink, certified, &found.poly)
         }
-        _ => put_answer(sink, Some(AnyJob::OfLoop(job)), answer),
+        _ => put_answer(sink, Some(asked), answer),
     }
 }
 
@@ -282,29 +120,25 @@ fn put_loop_certificate<K: Sink>(
 /// one, and else the report.
 fn put_found<K: Sink>(
     sink: &mut K,
-    job: Option<AnyJob>,
+    asked: Option<Heading>,
     words: CertWords,
     answer: &Answer,
 ) -> Result<(), Failed>
     requires places { HasPlaces answer.now }
     requires words { IsWords words }
     ensures text { Writes (K.seen sink.old) (K.seen sink.new) result
-        (answer_output (asked_in job.entry) words answer.now) }
-    ensures typed { OnOk result
-        (IfSome (answer_certificate (asked_in job.entry) words answer.now) IsTyped) }
+        (output_of (option_map heading_view asked.entry) words (Ok answer.now)) }
+    ensures typed { OnOk result (IfSome
+        (certificate_written (option_map heading_view asked.entry) words (Ok answer.now)) IsTyped) }
 {
-    match job {
-        Some(AnyJob::OfController(job)) if job.certified => {
-            put_certificate(sink, job, words, answer)
-        }
-        Some(AnyJob::OfStates { job, states }) if wants_certificate(&job.task) => {
-            put_state_certificate(sink, job, states, words, answer)
-        }
-        Some(AnyJob::OfLoop(job)) if job.certified => {
-            put_loop_certificate(sink, job, words, answer)
-        }
-        Some(_) | None => put_answer(sink, job, answer),
+    if let Some(asked) = asked
+        && asked.job.certified
+        && let Some(property) = property_of(&asked.job.task)
+    {
+        let certified = certified_job(asked.job, words, property);
+        return put_certificate(sink, asked, &certified, answer);
     }
+    put_answer(sink, asked, answer)
 }
 
 /// Writes what is asked for of the answer to a job, or why there is none: a certificate, which says
@@ -312,20 +146,20 @@ fn put_found<K: Sink>(
 /// report. It takes no memory.
 pub fn put_output<K: Sink>(
     sink: &mut K,
-    job: Option<AnyJob>,
+    asked: Option<Heading>,
     words: CertWords,
     outcome: &Result<Answer, Stop>,
 ) -> Result<(), Failed>
     requires places { IfOk outcome.now HasPlaces }
     requires words { IsWords words }
     ensures text { Writes (K.seen sink.old) (K.seen sink.new) result
-        (output_of (asked_in job.entry) words outcome.now) }
+        (output_of (option_map heading_view asked.entry) words outcome.now) }
     // Of a certificate that was written whole its types are known.
-    ensures typed { OnOk result
-        (IfSome (certificate_written (asked_in job.entry) words outcome.now) IsTyped) }
+    ensures typed { OnOk result (IfSome
+        (certificate_written (option_map heading_view asked.entry) words outcome.now) IsTyped) }
 {
     match outcome {
-        Ok(answer) => put_found(sink, job, words, answer),
+        Ok(answer) => put_found(sink, asked, words, answer),
         Err(stop) => put_stop(sink, stop),
     }
 }

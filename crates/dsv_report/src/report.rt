@@ -1,146 +1,40 @@
 // Writes the text of an answer, with no memory.
 #![tactic(auto, using(dsv_algebra::proofs::Casts::casts))]
 
-ghost use Rattle.std.specs.Prelude.{◌≡◌, ◌++◌, cond, length, map, filter};
+ghost use Rattle.std.specs.Prelude.{◌≡◌, cond, length, map, filter, option_map};
 ghost use Rattle.dsv_base.specs.Taking.{Writes};
 ghost use Rattle.dsv_system.specs.RowViews.{row_of};
-ghost use Rattle.dsv_command.specs.Asking.{asked_of, asked_task, asked_cascade, asked_series};
-ghost use Rattle.dsv_command.specs.Cascades.{task_alone};
-ghost use Rattle.dsv_report.specs.AnyJobs as any;
-ghost use Rattle.dsv_report.specs.AnyJobs.{asked_in, of_controller, of_cascade};
 ghost use Rattle.dsv_report.specs.Gains.{too_deep_text};
+ghost use Rattle.dsv_report.specs.Headings.{heading_view};
 ghost use Rattle.dsv_report.specs.Printing.{HasPlaces};
 ghost use Rattle.dsv_report.specs.Report as report;
 
 use crate::answers::Answer;
-use crate::any_job::AnyJob;
-use crate::cascades::{put_forms, put_section_count, put_section_tables};
+use crate::cascades::{put_forms, put_section_tables};
 use crate::certificates::put_checked;
-use crate::ellipsoids::{put_ellipsoid_job, put_in_ellipsoid, put_no_offer_cause};
+use crate::ellipsoids::{put_in_ellipsoid, put_no_offer_cause};
 use crate::forms::{put_fall, put_form, put_kept_away, put_numbers};
 use crate::fragments::{Fragment, put_fragments};
 use crate::gains::{put_measure, put_out_of_range};
-use crate::lines::{put_number_line, put_numbered, put_property, put_realisation};
-use crate::loops::{put_cascade_loop_job, put_loop_job};
-use crate::states::{put_no_form_cause, put_state_job};
+use crate::headings::{Heading, put_heading};
+use crate::lines::{put_number_line, put_numbered};
+use crate::states::put_no_form_cause;
 use crate::stop::Stop;
 use crate::stops::stop_status;
 use crate::tables::put_table;
 use crate::tallies::put_tally;
-use crate::verdict::{Verdict, verdict_of};
+use crate::verdict::verdict_of;
 use dsv_base::{Failed, Sink, put_all, put_line};
 use dsv_certfile::write_ellipsoid;
 use dsv_cnf::write_dimacs;
-use dsv_command::{CascadeJob, CascadeTask, Job, Task};
 use dsv_forms::Poly;
 use dsv_fraction::Frac;
 use dsv_jury::Jury;
 use dsv_meaning::{Cycle, Trace};
-use dsv_names::{Property, RootProperty, RunProperty};
 use dsv_system::Row;
 use dsv_template::{Candidate, Inequality, KeptSet, Why};
 use dsv_timing::TimingReport;
 use std::slice;
-
-/// Writes what is asked of the controller.
-fn put_task<K: Sink>(sink: &mut K, task: &Task) -> Result<(), Failed>
-    ensures { Writes (K.seen sink.old) (K.seen sink.new) result
-        (report.task_text (asked_task task.now)) }
-{
-    match task {
-        Task::Decide(question) => put_property(sink, Property::OfRoots(question.property)),
-        Task::CheckTime => put_property(sink, Property::Timing),
-        Task::WriteFormula(question) | Task::Search(question, _) => {
-            put_property(sink, Property::OfRuns(question.property))
-        }
-        Task::SeekSet(_) | Task::MeasureGain => {
-            put_property(sink, Property::OfRuns(RunProperty::Overflow))
-        }
-        Task::Simulate(_) => put_all(sink, b""),
-    }
-}
-
-/// Writes how many samples are asked for, or that there is no end to them and how it is decided, up
-/// to the end of the line.
-fn put_extent<K: Sink>(sink: &mut K, task: &Task) -> Result<(), Failed>
-    ensures { Writes (K.seen sink.old) (K.seen sink.new) result
-        (report.extent_text (asked_task task.now)) }
-{
-    match task {
-        Task::WriteFormula(question) | Task::Search(question, _) => {
-            put_number_line(sink, b" samples ", question.samples.into())
-        }
-        Task::SeekSet(_) => put_all(sink, b" unbounded\n"),
-        Task::MeasureGain => put_all(sink, b" gain\n"),
-        Task::Decide(_) | Task::CheckTime | Task::Simulate(_) => put_all(sink, b"\n"),
-    }
-}
-
-/// Writes what a job for a controller asked for.
-fn put_controller_job<K: Sink>(sink: &mut K, job: &Job) -> Result<(), Failed>
-    ensures { Writes (K.seen sink.old) (K.seen sink.new) result
-        (report.job_text (of_controller (asked_of job.now))) }
-{
-    put_task(sink, &job.task)?;
-    put_realisation(sink, job.design.realisation)?;
-    put_extent(sink, &job.task)
-}
-
-/// Writes what a job for a cascade asked for, before the realisation.
-fn put_series_task<K: Sink>(sink: &mut K, task: &CascadeTask) -> Result<(), Failed>
-    ensures { Writes (K.seen sink.old) (K.seen sink.new) result
-        (report.task_text (task_alone (asked_series task.now))) }
-{
-    match task {
-        CascadeTask::DecideStability { .. } => {
-            put_property(sink, Property::OfRoots(RootProperty::Stability))
-        }
-        CascadeTask::SearchOverflow(_, _) | CascadeTask::MeasureGain => {
-            put_property(sink, Property::OfRuns(RunProperty::Overflow))
-        }
-        CascadeTask::Simulate(_) => put_all(sink, b""),
-    }
-}
-
-/// Writes how many samples it asked for, up to the end of the line.
-fn put_series_extent<K: Sink>(sink: &mut K, task: &CascadeTask) -> Result<(), Failed>
-    ensures { Writes (K.seen sink.old) (K.seen sink.new) result
-        (report.extent_text (task_alone (asked_series task.now))) }
-{
-    match task {
-        CascadeTask::SearchOverflow(samples, _) => {
-            put_number_line(sink, b" samples ", samples.count.into())
-        }
-        CascadeTask::MeasureGain => put_all(sink, b" gain\n"),
-        CascadeTask::DecideStability { .. } | CascadeTask::Simulate(_) => put_all(sink, b"\n"),
-    }
-}
-
-/// Writes what a job for a cascade asked for.
-fn put_cascade_job<K: Sink>(sink: &mut K, job: &CascadeJob) -> Result<(), Failed>
-    ensures { Writes (K.seen sink.old) (K.seen sink.new) result
-        (report.job_text (of_cascade (asked_cascade job.now))) }
-{
-    put_series_task(sink, &job.task)?;
-    put_realisation(sink, job.design.realisation)?;
-    put_section_count(sink, &job.later)?;
-    put_series_extent(sink, &job.task)
-}
-
-/// Writes what a job asked for.
-fn put_job<K: Sink>(sink: &mut K, job: AnyJob) -> Result<(), Failed>
-    ensures { Writes (K.seen sink.old) (K.seen sink.new) result
-        (report.job_text (any.asked_of job.entry)) }
-{
-    match job {
-        AnyJob::OfController(job) => put_controller_job(sink, job),
-        AnyJob::OfCascade(job) => put_cascade_job(sink, job),
-        AnyJob::OfStates { job, states } => put_state_job(sink, job, u64::from(states)),
-        AnyJob::OfEllipsoid(job) => put_ellipsoid_job(sink, job),
-        AnyJob::OfLoop(job) => put_loop_job(sink, job),
-        AnyJob::OfCascadeLoop(job) => put_cascade_loop_job(sink, job),
-    }
-}
 
 /// Writes what Jury's recursion says.
 fn put_jury<K: Sink>(sink: &mut K, jury: Jury) -> Result<(), Failed>
@@ -345,26 +239,6 @@ fn put_samples<K: Sink>(sink: &mut K, rows: &[Row]) -> Result<(), Failed>
     Ok(())
 }
 
-/// Writes a verdict and what the job asked for.
-fn put_job_heading<K: Sink>(sink: &mut K, verdict: Verdict, job: AnyJob) -> Result<(), Failed>
-    ensures { Writes (K.seen sink.old) (K.seen sink.new) result
-        (report.verdict_text verdict ++ report.job_text (any.asked_of job.entry)) }
-{
-    put_all(sink, verdict.text())?;
-    put_job(sink, job)
-}
-
-/// Writes the heading of a verdict on a job; nothing without a job, or before a plain text.
-fn put_heading<K: Sink>(sink: &mut K, verdict: Verdict, job: Option<AnyJob>) -> Result<(), Failed>
-    ensures { Writes (K.seen sink.old) (K.seen sink.new) result
-        (report.heading verdict (asked_in job.entry)) }
-{
-    match job {
-        Some(job) if verdict.has_heading() => put_job_heading(sink, verdict, job),
-        _ => put_all(sink, b""),
-    }
-}
-
 /// Writes that a search gave up.
 fn put_spent<K: Sink>(sink: &mut K, conflicts: u64) -> Result<(), Failed>
     ensures { Writes (K.seen sink.old) (K.seen sink.new) result (report.spent_text conflicts) }
@@ -425,14 +299,14 @@ fn put_body<K: Sink>(sink: &mut K, answer: &Answer) -> Result<(), Failed>
 /// Writes the text of an answer to a job, or to arguments that ask for none. It takes no memory.
 pub(crate) fn put_answer<K: Sink>(
     sink: &mut K,
-    job: Option<AnyJob>,
+    asked: Option<Heading>,
     answer: &Answer,
 ) -> Result<(), Failed>
     requires { HasPlaces answer.now }
     ensures { Writes (K.seen sink.old) (K.seen sink.new) result
-        (report.answer_text (asked_in job.entry) answer.now) }
+        (report.answer_text (option_map heading_view asked.entry) answer.now) }
 {
-    put_heading(sink, verdict_of(answer), job)?;
+    put_heading(sink, verdict_of(answer), asked)?;
     put_body(sink, answer)
 }
 

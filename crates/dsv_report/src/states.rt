@@ -1,68 +1,16 @@
 // Writes what is found of state-space controllers, and why their files are refused, with no memory.
 ghost use Rattle.std.specs.Prelude.{◌≡◌};
 ghost use Rattle.dsv_base.specs.Taking.{Writes};
-ghost use Rattle.dsv_command.specs.Asking.{asked_state_task, asked_states};
-ghost use Rattle.dsv_report.specs.StateTexts.{state_task_text, state_extent_text, state_job_text};
 ghost use Rattle.dsv_report.specs.StateTexts.{no_state_form_text, state_code, state_text_after};
 ghost use Rattle.dsv_report.specs.StateTexts.{state_text, state_quant_code, state_quant_text_after};
 ghost use Rattle.dsv_report.specs.StateTexts.{state_quant_text};
 
 use crate::fragments::{Fragment, put_fragments};
-use crate::lines::{put_number_line, put_numbered, put_property};
+use crate::lines::put_number_line;
 use dsv_base::{Failed, Sink, put_all};
-use dsv_command::{StateJob, StateTask};
-use dsv_names::{Named, Property, RootProperty, RunProperty};
+use dsv_names::Named;
 use dsv_state_file::StateRefusal;
 use dsv_state_space::StateQuantRefusal;
-
-// ---- headings
-
-/// Writes what is asked of the controller.
-fn put_state_task<K: Sink>(sink: &mut K, task: &StateTask) -> Result<(), Failed>
-    ensures { Writes (K.seen sink.old) (K.seen sink.new) result
-        (state_task_text (asked_state_task task.now)) }
-{
-    match task {
-        StateTask::CheckForm(_) | StateTask::SeekForm { .. } | StateTask::DecideStability => {
-            put_property(sink, Property::OfRoots(RootProperty::Stability))
-        }
-        StateTask::Search(question, _) => put_property(sink, Property::OfRuns(question.property)),
-        StateTask::MeasureGain => put_property(sink, Property::OfRuns(RunProperty::Overflow)),
-        StateTask::Simulate(_) => put_all(sink, b""),
-    }
-}
-
-/// Writes how many samples are asked for, or that the gain decides over runs of any length, up to
-/// the end of the line.
-fn put_state_extent<K: Sink>(sink: &mut K, task: &StateTask) -> Result<(), Failed>
-    ensures { Writes (K.seen sink.old) (K.seen sink.new) result
-        (state_extent_text (asked_state_task task.now)) }
-{
-    match task {
-        StateTask::Search(question, _) => {
-            put_number_line(sink, b" samples ", question.samples.into())
-        }
-        StateTask::MeasureGain => put_all(sink, b" gain\n"),
-        StateTask::CheckForm(_)
-        | StateTask::SeekForm { .. }
-        | StateTask::DecideStability
-        | StateTask::Simulate(_) => put_all(sink, b"\n"),
-    }
-}
-
-/// Writes what a job asked for, of a controller with so many states.
-pub(crate) fn put_state_job<K: Sink>(
-    sink: &mut K,
-    job: &StateJob,
-    states: u64,
-) -> Result<(), Failed>
-    ensures { Writes (K.seen sink.old) (K.seen sink.new) result
-        (state_job_text (asked_states job.now) states) }
-{
-    put_state_task(sink, &job.task)?;
-    put_numbered(sink, b"state-space ", states)?;
-    put_state_extent(sink, &job.task)
-}
 
 // ---- forms
 

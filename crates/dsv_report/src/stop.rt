@@ -1,4 +1,7 @@
 // Why the command has no answer.
+ghost use Rattle.std.specs.Prelude.{◌≡◌};
+ghost use Rattle.dsv_report.specs.Stops.{stop_of_file};
+
 use dsv_base::NoMemory;
 use dsv_cascade::CascadeRefusal;
 use dsv_certfile::{CertRefusal, CheckFault, TextFault, TextRefusal};
@@ -36,26 +39,23 @@ pub enum CertificateFault {
 pub enum Stop {
     /// The command line is not valid: its arguments ask for no job.
     Usage,
-    /// The first fault of the controller file.
-    FileRefused(FileRefusal),
-    /// The controller file has over 65,536 bytes.
-    FileTooLong,
-    /// The first number of the controller that is no word, or the range of its inputs, where it is
-    /// empty.
-    QuantRefused(QuantRefusal),
-    /// The first fault of the file of this section of a cascade, 1 or more.
-    SectionRefused { section: u32, refusal: FileRefusal },
-    /// The file of this section of a cascade has over 65,536 bytes.
-    SectionTooLong { section: u32 },
-    /// The first number of this section of a cascade that is no word, or the range of its inputs,
+    /// The first fault of the file of a controller, of a section or of a plant.
+    FileRefused {
+        which: WhichFile,
+        refusal: FileRefusal,
+    },
+    /// The file has over 65,536 bytes.
+    FileTooLong {
+        which: WhichFile,
+    },
+    /// The first number of the controller in this file that is no word, or the range of its inputs,
     /// where it is empty.
-    SectionQuant { section: u32, refusal: QuantRefusal },
+    QuantRefused {
+        which: WhichFile,
+        refusal: QuantRefusal,
+    },
     /// The sections make no cascade.
     CascadeRefused(CascadeRefusal),
-    /// The first fault of the plant's file.
-    PlantRefused(FileRefusal),
-    /// The plant's file has over 65,536 bytes.
-    PlantTooLong,
     /// The controller and the plant have no loop.
     LoopRefused(LoopRefusal),
     /// The first fault of a state-space controller's file.
@@ -64,11 +64,19 @@ pub enum Stop {
     /// where it is empty.
     StateQuantRefused(StateQuantRefusal),
     /// The first input of the job that is no word of the format, and its number from 0 on.
-    InputRange { index: u32, value: i128 },
+    InputRange {
+        index: u32,
+        value: i128,
+    },
     /// The job is too large: samples times products times the square of a word's bits.
-    JobSize { size: u64 },
+    JobSize {
+        size: u64,
+    },
     /// The first line of the certificate that is wrong, counted from 1, and 0 for the whole file.
-    CertificateRefused { line: u64, fault: CertificateFault },
+    CertificateRefused {
+        line: u64,
+        fault: CertificateFault,
+    },
     /// The first fault of the text of an ellipsoid.
     EllipsoidText(TextRefusal),
     /// The first test that refuses an ellipsoid.
@@ -89,29 +97,16 @@ impl From<NoMemory> for Stop {
     }
 }
 
-impl From<FileRefusal> for Stop {
-    ghost use Rattle.std.specs.Prelude.{◌≡◌};
-    ghost use Rattle.dsv_report.specs.Stops.{stop_of_file};
-
-    ghost from_gives = { λ refusal e. e ≡ stop_of_file refusal };
-
-    /// That there was no memory is no fault of the file.
-    fn from(refusal: FileRefusal) -> Self {
+impl Stop {
+    /// Why there is no answer where the text of this file is refused so: that there was no memory
+    /// is no fault of the file.
+    pub fn of_file(which: WhichFile, refusal: FileRefusal) -> Stop
+        ensures { result ≡ stop_of_file which refusal }
+    {
         match refusal {
             FileRefusal::NoMemory => Stop::NoMemory,
-            refusal => Stop::FileRefused(refusal),
+            refusal => Stop::FileRefused { which, refusal },
         }
-    }
-}
-
-impl From<QuantRefusal> for Stop {
-    ghost use Rattle.std.specs.Prelude.{◌≡◌};
-    ghost use Rattle.dsv_report.specs.declared.stop.Stop.TheVariants as stop;
-
-    ghost from_gives = { λ refusal e. e ≡ stop.QuantRefused refusal };
-
-    fn from(refusal: QuantRefusal) -> Self {
-        Stop::QuantRefused(refusal)
     }
 }
 

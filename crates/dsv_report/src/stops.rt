@@ -1,10 +1,8 @@
 // Writes why there is no answer, with no memory.
 ghost use Rattle.std.specs.Prelude.{◌≡◌, ◌++◌};
 ghost use Rattle.dsv_base.specs.Taking.{Writes};
-ghost use Rattle.dsv_report.specs.CascadeTexts.{section_line};
-ghost use Rattle.dsv_report.specs.LoopTexts.{plant_line};
 ghost use Rattle.dsv_report.specs.Refusals.{file_text, quant_text};
-ghost use Rattle.dsv_report.specs.Report.{stop_status, stop_text, too_long_text};
+ghost use Rattle.dsv_report.specs.Report.{place_text, stop_status, stop_text, too_long_text};
 
 use crate::cascades::{put_cascade_refusal, put_section};
 use crate::certificates::put_certificate_refusal;
@@ -24,15 +22,10 @@ pub(crate) fn stop_status(stop: &Stop) -> u8
 {
     match stop {
         Stop::Usage => 1,
-        Stop::FileRefused(_)
-        | Stop::FileTooLong
-        | Stop::QuantRefused(_)
-        | Stop::SectionRefused { .. }
-        | Stop::SectionTooLong { .. }
-        | Stop::SectionQuant { .. }
+        Stop::FileRefused { .. }
+        | Stop::FileTooLong { .. }
+        | Stop::QuantRefused { .. }
         | Stop::CascadeRefused(_)
-        | Stop::PlantRefused(_)
-        | Stop::PlantTooLong
         | Stop::LoopRefused(_)
         | Stop::StateRefused(_)
         | Stop::StateQuantRefused(_)
@@ -44,63 +37,46 @@ pub(crate) fn stop_status(stop: &Stop) -> u8
     }
 }
 
-/// Writes that a controller's file is too long.
-fn put_too_long<K: Sink>(sink: &mut K) -> Result<(), Failed>
-    ensures { Writes (K.seen sink.old) (K.seen sink.new) result too_long_text }
+/// Writes which file is meant, before what is said of it.
+fn put_place<K: Sink>(sink: &mut K, which: WhichFile) -> Result<(), Failed>
+    ensures { Writes (K.seen sink.old) (K.seen sink.new) result (place_text which) }
 {
+    match which {
+        WhichFile::Section(section) => put_section(sink, u64::from(section)),
+        WhichFile::Plant => put_plant(sink),
+        WhichFile::Controller | WhichFile::Certificate => put_all(sink, b""),
+    }
+}
+
+/// Writes why a file is refused.
+fn put_refused<K: Sink>(sink: &mut K, which: WhichFile, refusal: FileRefusal) -> Result<(), Failed>
+    ensures { Writes (K.seen sink.old) (K.seen sink.new) result
+        (place_text which ++ file_text refusal) }
+{
+    put_place(sink, which)?;
+    put_file_refusal(sink, refusal)
+}
+
+/// Writes that a file is too long.
+fn put_too_long<K: Sink>(sink: &mut K, which: WhichFile) -> Result<(), Failed>
+    ensures { Writes (K.seen sink.old) (K.seen sink.new) result
+        (place_text which ++ too_long_text) }
+{
+    put_place(sink, which)?;
     put_all(sink, b"FILE REFUSED 12 TOO_LONG at 65536\n")
 }
 
-/// Writes why the file of a cascade's section is refused.
-fn put_section_refusal<K: Sink>(
+/// Writes why what is in a file doesn't become words.
+fn put_wordless<K: Sink>(
     sink: &mut K,
-    section: u64,
-    refusal: FileRefusal,
-) -> Result<(), Failed>
-    ensures { Writes (K.seen sink.old) (K.seen sink.new) result
-        (section_line section ++ file_text refusal) }
-{
-    put_section(sink, section)?;
-    put_file_refusal(sink, refusal)
-}
-
-/// Writes that the file of a cascade's section is too long.
-fn put_section_too_long<K: Sink>(sink: &mut K, section: u64) -> Result<(), Failed>
-    ensures { Writes (K.seen sink.old) (K.seen sink.new) result
-        (section_line section ++ too_long_text) }
-{
-    put_section(sink, section)?;
-    put_too_long(sink)
-}
-
-/// Writes why a cascade's section doesn't become words.
-fn put_section_quant<K: Sink>(
-    sink: &mut K,
-    section: u64,
+    which: WhichFile,
     refusal: QuantRefusal,
 ) -> Result<(), Failed>
     ensures { Writes (K.seen sink.old) (K.seen sink.new) result
-        (section_line section ++ quant_text refusal) }
+        (place_text which ++ quant_text refusal) }
 {
-    put_section(sink, section)?;
+    put_place(sink, which)?;
     put_quant_refusal(sink, refusal)
-}
-
-/// Writes why the plant's file is refused.
-fn put_plant_refusal<K: Sink>(sink: &mut K, refusal: FileRefusal) -> Result<(), Failed>
-    ensures { Writes (K.seen sink.old) (K.seen sink.new) result
-        (plant_line ++ file_text refusal) }
-{
-    put_plant(sink)?;
-    put_file_refusal(sink, refusal)
-}
-
-/// Writes that the plant's file is too long.
-fn put_plant_too_long<K: Sink>(sink: &mut K) -> Result<(), Failed>
-    ensures { Writes (K.seen sink.old) (K.seen sink.new) result (plant_line ++ too_long_text) }
-{
-    put_plant(sink)?;
-    put_too_long(sink)
 }
 
 /// Writes why there is no answer. It takes no memory.
@@ -109,19 +85,10 @@ pub(crate) fn put_stop<K: Sink>(sink: &mut K, stop: &Stop) -> Result<(), Failed>
 {
     match stop {
         Stop::Usage => put_all(sink, b"USAGE\n"),
-        Stop::FileRefused(refusal) => put_file_refusal(sink, *refusal),
-        Stop::FileTooLong => put_too_long(sink),
-        Stop::QuantRefused(refusal) => put_quant_refusal(sink, *refusal),
-        Stop::SectionRefused { section, refusal } => {
-            put_section_refusal(sink, u64::from(*section), *refusal)
-        }
-        Stop::SectionTooLong { section } => put_section_too_long(sink, u64::from(*section)),
-        Stop::SectionQuant { section, refusal } => {
-            put_section_quant(sink, u64::from(*section), *refusal)
-        }
+        Stop::FileRefused { which, refusal } => put_refused(sink, *which, *refusal),
+        Stop::FileTooLong { which } => put_too_long(sink, *which),
+        Stop::QuantRefused { which, refusal } => put_wordless(sink, *which, *refusal),
         Stop::CascadeRefused(refusal) => put_cascade_refusal(sink, *refusal),
-        Stop::PlantRefused(refusal) => put_plant_refusal(sink, *refusal),
-        Stop::PlantTooLong => put_plant_too_long(sink),
         Stop::LoopRefused(refusal) => put_loop_refusal(sink, *refusal),
         Stop::StateRefused(refusal) => put_state_refusal(sink, *refusal),
         Stop::StateQuantRefused(refusal) => put_state_quant_refusal(sink, *refusal),

@@ -1,5 +1,6 @@
 // The verdicts of answers.
 ghost use Rattle.std.specs.Prelude.{◌≡◌};
+ghost use Rattle.dsv_report.specs.Headings as headings;
 ghost use Rattle.dsv_report.specs.Report as report;
 
 use crate::answers::Answer;
@@ -8,33 +9,33 @@ use dsv_poly_table::SectionTables;
 use dsv_table::TableVerdict;
 
 /// The first line of a success.
-#[tactic(auto, unfolding(crate::specs::Report::successful))]
+#[tactic(auto, unfolding(crate::specs::Headings::successful))]
 fn success_line() -> &'static [u8]
-    ensures { result.now ≡ report.successful }
+    ensures { result.now ≡ headings.successful }
 {
     b"VERIFICATION SUCCESSFUL\n"
 }
 
 /// The first line of a failure.
-#[tactic(auto, unfolding(crate::specs::Report::failed))]
+#[tactic(auto, unfolding(crate::specs::Headings::failed))]
 fn failure_line() -> &'static [u8]
-    ensures { result.now ≡ report.failed }
+    ensures { result.now ≡ headings.failed }
 {
     b"VERIFICATION FAILED\n"
 }
 
 /// The first line of what is undecided.
-#[tactic(auto, unfolding(crate::specs::Report::inconclusive))]
+#[tactic(auto, unfolding(crate::specs::Headings::inconclusive))]
 fn doubt_line() -> &'static [u8]
-    ensures { result.now ≡ report.inconclusive }
+    ensures { result.now ≡ headings.inconclusive }
 {
     b"VERIFICATION INCONCLUSIVE\n"
 }
 
 /// The first line of a simulation.
-#[tactic(auto, unfolding(crate::specs::Report::simulation))]
+#[tactic(auto, unfolding(crate::specs::Headings::simulation))]
 fn simulation_line() -> &'static [u8]
-    ensures { result.now ≡ report.simulation }
+    ensures { result.now ≡ headings.simulation }
 {
     b"SIMULATION\n"
 }
@@ -57,7 +58,7 @@ pub enum Verdict {
 impl Verdict {
     /// The line of the verdict.
     pub(crate) fn text(self) -> &'static [u8]
-        ensures { result.now ≡ report.verdict_text self }
+        ensures { result.now ≡ headings.verdict_text self }
     {
         match self {
             Verdict::Successful => success_line(),
@@ -70,7 +71,7 @@ impl Verdict {
 
     /// The status of an answer with this verdict.
     pub(crate) fn status(self) -> u8
-        ensures { result ≡ report.verdict_status self }
+        ensures { result ≡ headings.verdict_status self }
     {
         match self {
             Verdict::Successful | Verdict::Simulation | Verdict::Plain => 0,
@@ -81,7 +82,7 @@ impl Verdict {
 
     /// Whether the text of an answer with this verdict has a heading.
     pub(crate) fn has_heading(self) -> bool
-        ensures { result ≡ report.has_heading self }
+        ensures { result ≡ headings.has_heading self }
     {
         match self {
             Verdict::Plain => false,

@@ -1,4 +1,4 @@
-use Rattle.dsv_cli.proofs.CheckRows.{of_refusal}
+use Rattle.dsv_cli.proofs.Checks.{of_refusal}
 use Rattle.dsv_cli.proofs.check.certificate_answer.Goals as goal
 
 pub returns-in-Err-clause-found : goal.returns-in-Err-clause-found

@@ -1,28 +1,24 @@
 use Rattle.std.proofs.Common.{◌≡◌, rules, subst}
 use Rattle.std.specs.Prelude.{Err}
-use Rattle.dsv_reader.specs.Texts.{IsTextOf}
-use Rattle.dsv_report.specs.Stops.{stop_of_file}
-use Rattle.dsv_cli.proofs.FileBytes.{controller_unread, controller_faulty}
+use Rattle.dsv_reader.specs.Texts.{IsTextOf, IsFaultOf}
+use Rattle.dsv_cli.proofs.FileBytes.{text_unread, controller_faulty, no_certificate, text_fits}
 use Rattle.dsv_cli.proofs.controller_file.read_controller.Goals as goal
 
 pub returns-in_err-bytes-clause-unread : goal.returns-in_err-bytes-clause-unread
 returns-in_err-bytes-clause-unread g c =
     let why = c.in_err-bytes.field-0.0 in
     let is : c.from_residual.result ≡ Err why = search rules in
-    rw is (controller_unread (g.F.Files.seen c.args.files.now) (g.F.Files.seen c.read_bytes.new.files) c.args.name.now why c.in_err-bytes.ensures.unread)
+    rw is (text_unread IsFaultOf (g.F.Files.seen c.args.files.now) (g.F.Files.seen c.read_bytes.new.files) c.args.name.now c.args.which why (no_certificate c.args.which c.requires) c.in_err-bytes.ensures.unread)
 
-pub returns-in_err-read-clause-unread : goal.returns-in_err-read-clause-unread
-returns-in_err-read-clause-unread g c =
-    let old = g.F.Files.seen c.args.files.now in
-    let r = c.in_err-read.field-0.0 in
-    let is : c.from_residual-in_err-read.result ≡ Err (stop_of_file r) = search rules in
-    rw is (controller_faulty (old.held c.args.name.now) old (g.F.Files.seen c.read_bytes.new.files) c.args.name.now c.in_ok-bytes.bytes r c.in_ok-bytes.ensures.whole c.in_ok-bytes.ensures.fits
-    (rw c.as_slice.ensures at c.in_err-read.ensures.value))
+pub returns-clause-unread : goal.returns-clause-unread
+returns-clause-unread g c =
+    rw c.of_file.ensures (controller_faulty (g.F.Files.seen c.args.files.now) (g.F.Files.seen c.read_bytes.new.files) c.args.name.now c.in_ok-bytes.bytes c.args.which c.in-Err.refusal c.in_ok-bytes.ensures.whole (text_fits c.args.which c.requires c.in_ok-bytes.bytes c.in_ok-bytes.ensures.fits)
+    (rw c.as_slice.ensures at c.in-Err.ensures.value))
 
-pub returns-clause-controller : goal.returns-clause-controller
-returns-clause-controller g c =
-    let controller = c.in_ok-read.field-0 in (
+pub returns-in-Ok-clause-controller : goal.returns-in-Ok-clause-controller
+returns-in-Ok-clause-controller g c =
+    let controller = c.in-Ok.controller in (
       c.in_ok-bytes.bytes,
       c.in_ok-bytes.ensures.whole,
-      record { short = c.in_ok-bytes.ensures.fits; text = subst (λ bytes. IsTextOf bytes controller) c.as_slice.ensures c.in_ok-read.ensures.text },
+      record { short = text_fits c.args.which c.requires c.in_ok-bytes.bytes c.in_ok-bytes.ensures.fits; text = subst (λ bytes. IsTextOf bytes controller) c.as_slice.ensures c.in-Ok.ensures.text },
     )

@@ -1,4 +1,4 @@
-use Rattle.dsv_cli.proofs.TableLaws.{all_decided}
+use Rattle.dsv_cli.proofs.Completeness.{all_decided}
 use Rattle.dsv_cli.proofs.law.jobs_are_decided.Goals as goal
 
 pub returns : goal.returns

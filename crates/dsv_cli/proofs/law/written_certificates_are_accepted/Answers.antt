@@ -1,4 +1,4 @@
-use Rattle.dsv_cli.proofs.TableLaws.{written_accepted}
+use Rattle.dsv_cli.proofs.Accepted.{written_accepted}
 use Rattle.dsv_cli.proofs.law.written_certificates_are_accepted.Goals as goal
 
 pub returns : goal.returns

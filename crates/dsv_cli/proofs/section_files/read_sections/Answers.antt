@@ -20,16 +20,16 @@ returns-in_err-later-clause-unread g c =
     let unread : IsLaterUnread then new names why = rw c.as_slice.ensures.value at c.in_err-later.ensures.unread in
     rw is (inr (c.in_ok-controller.controller, c.in_ok-controller.ensures.controller, later_earlier old then new names why c.read_controller.ensures.kept c.in_ok-controller.ensures.came unread))
 
-pub returns-clause-controllers : goal.returns-clause-controllers
-returns-clause-controllers g c =
+pub returns-clause-later : goal.returns-clause-later
+returns-clause-later g c =
     let old = g.F.Files.seen c.args.files.now in
     let then = g.F.Files.seen c.read_controller.new.files in
     let names = texts c.args.later.now.items in
     let later : AreControllers then names c.in_ok-later.later.items = rw c.as_slice.ensures.value at c.in_ok-later.ensures.controllers in
-    record { first_file = c.in_ok-controller.ensures.controller; later_files = files_earlier old then names c.in_ok-later.later.items c.read_controller.ensures.kept later }
+    files_earlier old then names c.in_ok-later.later.items c.read_controller.ensures.kept later
 
-pub returns-clause-few : goal.returns-clause-few
-returns-clause-few g c =
+pub invariant_of-result : goal.invariant_of-result
+invariant_of-result g c =
     let then = g.F.Files.seen c.read_controller.new.files in
     let slice = c.as_slice.result.now in
     omega (arith, pairs_long (IsFileOf then) (texts slice) c.in_ok-later.later.items c.in_ok-later.ensures.controllers, length-map slice (λ (n : Bor (List ℕ)). n.now), c.as_slice.ensures.fits)

@@ -1,5 +1,4 @@
-use Rattle.dsv_command.proofs.RequestLaws.{line_read, line_found}
-use Rattle.dsv_command.proofs.FamilyLaws.{line_known}
+use Rattle.dsv_command.proofs.RequestLaws.{line_read, line_found, line_in_table, line_certifiable}
 use Rattle.dsv_command.proofs.law.requests_are_read.Goals as goal
 
 pub returns-clause-read : goal.returns-clause-read
@@ -8,5 +7,8 @@ returns-clause-read c = line_read
 pub returns-clause-ruled : goal.returns-clause-ruled
 returns-clause-ruled c = line_found
 
-pub returns-clause-known : goal.returns-clause-known
-returns-clause-known c = line_known
+pub returns-clause-in_table : goal.returns-clause-in_table
+returns-clause-in_table c = line_in_table
+
+pub returns-clause-certifiable : goal.returns-clause-certifiable
+returns-clause-certifiable c = line_certifiable

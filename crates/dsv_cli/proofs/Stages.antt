@@ -1,0 +1,159 @@
+-- The stages of a job lead to its row.
+use Rattle.std.proofs.Common.{◌≡◌, ◌⊎◌, ◌≤◌, inl, inr, ℕ, List, [], ◌∷◌, subst, refl}
+use Rattle.std.specs.Prelude.{Bool, true, false, Ok, Err}
+use Rattle.dsv_base.specs.Seen.{FilesSeen}
+use Rattle.dsv_names.specs.declared.design.Design.{Design}
+use Rattle.dsv_names.specs.declared.property.RootProperty.{RootProperty}
+use Rattle.dsv_names.specs.declared.property.RootProperty.TheVariants.{Stability}
+use Rattle.dsv_names.specs.declared.property.RootProperty.TheVariants as root
+use Rattle.dsv_reader.specs.Controllers.{ControllerView}
+use Rattle.dsv_reader.specs.Plants.{PlantView}
+use Rattle.dsv_quantiser.specs.QuantisedView.{QuantisedView}
+use Rattle.dsv_cascade.specs.Cascades.{CascadeView, sections_of}
+use Rattle.dsv_state_file.specs.StateFiles.{StateFileView}
+use Rattle.dsv_state_space.specs.StateView.{StateView}
+use Rattle.dsv_loop.specs.Loops.{loop_of}
+use Rattle.dsv_certfile.specs.declared.certificate.Certificate.{Certificate}
+use Rattle.dsv_certfile.specs.declared.ellipsoid.Ellipsoid.{Ellipsoid}
+use Rattle.dsv_certfile.specs.declared.job.CertWords.{CertWords}
+use Rattle.dsv_command.specs.Table.{JobFiles, controller, cascade, states, plant_loop, cascade_loop, kind_of, Task, checks_form, checks_ellipsoid, decides, has_cell}
+use Rattle.dsv_command.specs.declared.kind.Kind.TheVariants as of_kind
+use Rattle.dsv_report.specs.declared.stop.Stop.{Stop}
+use Rattle.dsv_report.specs.declared.stop.Stop.TheVariants as stop
+use Rattle.dsv_report.specs.Stops.{Outcome}
+use Rattle.dsv_cli.specs.Checking.{IsCertificateOf, IsUnreadCertificate}
+use Rattle.dsv_cli.specs.Ellipsoids.{IsOffer, IsOfferOf}
+use Rattle.dsv_cli.specs.Headline.{AreKept, CameOf, IsSpelled}
+use Rattle.dsv_cli.specs.JobRows.{JobTexts, of_one, of_sections, of_state_file, with_plant, sections_with_plant, HaveTexts, AreUnread, Evidence, none, certificate, ellipsoid, HasEvidence, IsEvidenceUnread, AreWordless, IsTaskDone, IsDoneBy, IsJobRow, IsOfCheck, IsCheckedBy, IsCheckOfRow, of_words, of_series, of_state_words, IsOfSections, IsOfDecision, IsNothing, IsSaidBy, IsSaidOf}
+use Rattle.dsv_cli.specs.Loops.{IsOfLoop, HasFewCoefficients}
+use Rattle.dsv_cli.specs.States.{IsOfStateTable}
+use Rattle.dsv_cli.specs.Stages.{kind_in, IsAlone, IsDoneFor, IsRowFor}
+use Rattle.dsv_cli.proofs.FileBytes.{unread_earlier, offer_earlier}
+
+-- ---- evidence, from files that were read earlier
+spelled_earlier : (old then : FilesSeen) (name : List ℕ) (c : Certificate) → AreKept old then → IsCertificateOf then name c → IsCertificateOf old name c
+spelled_earlier old then name c k h = subst (λ held. CameOf (held name) (λ written. IsSpelled written c)) k.held h
+
+offered_earlier : (old then : FilesSeen) (name : List ℕ) (o : Ellipsoid) → AreKept old then → IsOfferOf then name o → IsOfferOf old name o
+offered_earlier old then name o k h = subst (λ held. CameOf (held name) (λ written. IsOffer written o)) k.held h
+
+evidence_earlier : (old then : FilesSeen) (task : Task) (e : Evidence) → AreKept old then → HasEvidence then task e → HasEvidence old task e
+evidence_earlier old then (checks_form name) (certificate c) k h = spelled_earlier old then name c k h
+evidence_earlier old then (checks_form name) e k h = absurd h
+evidence_earlier old then (checks_ellipsoid name) (ellipsoid o) k h = offered_earlier old then name o k h
+evidence_earlier old then (checks_ellipsoid name) e k h = absurd h
+evidence_earlier old then task none k h = tt
+evidence_earlier old then task e k h = absurd h
+
+evidence_unread_earlier : (old then new : FilesSeen) (task : Task) (why : Stop) → AreKept old then → old.came ≤ then.came → IsEvidenceUnread then new task why → IsEvidenceUnread old new task why
+evidence_unread_earlier old then new (checks_form name) why k l h = unread_earlier old then new name why k.held k.faults l h
+evidence_unread_earlier old then new (checks_ellipsoid name) why k l h = offer_earlier old then new name why k.held k.faults l h
+evidence_unread_earlier old then new task why k l h = absurd h
+
+-- ---- from the texts on
+pub lacks_evidence : (old new : FilesSeen) (came : JobTexts) (task : Task) (design : Design) (why : Stop) → IsEvidenceUnread old new task why → IsRowFor old new came task design (Err why)
+lacks_evidence old new came task design stop.NoMemory h = tt
+lacks_evidence old new came task design why h = inl h
+
+pub lacks_words : (old new : FilesSeen) (came : JobTexts) (task : Task) (design : Design) (e : Evidence) (why : Stop) → HasEvidence old task e → AreWordless design came why → IsRowFor old new came task design (Err why)
+lacks_words old new came task design e stop.NoMemory n h = tt
+lacks_words old new came task design e why n h = inr (inl (e, n, h))
+
+pub task_done : (old new : FilesSeen) (came : JobTexts) (task : Task) (design : Design) (found : Outcome) → IsDoneFor old came task design found → IsRowFor old new came task design found
+task_done old new came task design (Ok found) d = d
+task_done old new came task design (Err stop.NoMemory) d = tt
+task_done old new came task design (Err why) d = inr (inr d)
+
+done_earlier : (old then : FilesSeen) (came : JobTexts) (task : Task) (design : Design) (found : Outcome) → AreKept old then → IsDoneFor then came task design found → IsDoneFor old came task design found
+done_earlier old then came task design found k (e, n, w, b, d) = (e, evidence_earlier old then task e k n, w, b, d)
+
+-- ---- from the files on
+abbrev done_by : (old : FilesSeen) (files : JobFiles) (came : JobTexts) (task : Task) (design : Design) (found : Outcome) → HaveTexts old files came → IsDoneFor old came task design found → IsDoneBy old files task design found
+done_by old files came task design found t d = record { texts = came; have_texts = t; evidence = d.0; has_evidence = d.1; words = d.2; become_words = d.3; done = d.4 }
+
+-- a job's row, with what is said beside it
+abbrev IsBeside : FilesSeen → FilesSeen → JobFiles → Task → Design → Outcome → ℕ → CertWords → Type 0
+IsBeside old new files task design found many said = (row : IsJobRow old new files task design found) × IsSaidBy old new files task design found row many said
+
+-- a file isn't what it has to be
+pub unread_beside : (old new : FilesSeen) (files : JobFiles) (task : Task) (design : Design) (why : Stop) (many : ℕ) (said : CertWords) → AreUnread old new files why → IsNothing many said
+    → (row : IsJobRow old new files task design (Err why)) × IsSaidBy old new files task design (Err why) row many said
+unread_beside old new files task design stop.NoMemory many said h n = (tt, inr n)
+unread_beside old new files task design why many said h n = (inl h, n)
+
+-- they are, and were read before the rest
+stopped_beside : (old then new : FilesSeen) (files : JobFiles) (came : JobTexts) (task : Task) (design : Design) (many : ℕ) (said : CertWords) (why : Stop) → HaveTexts old files came → AreKept old then → old.came ≤ then.came → IsSaidOf came many said
+    → IsEvidenceUnread then new task why ⊎ (((e : Evidence) × HasEvidence then task e × AreWordless design came why) ⊎ IsDoneFor then came task design (Err why)) → IsBeside old new files task design (Err why) many said
+stopped_beside old then new files came task design many said stop.NoMemory t k l s h = (tt, inl (came, t, s))
+stopped_beside old then new files came task design many said why t k l s (inl h) = (inr (inl (came, t, evidence_unread_earlier old then new task why k l h)), s)
+stopped_beside old then new files came task design many said why t k l s (inr (inl (e, n, h))) = (inr (inr (inl (came, e, t, evidence_earlier old then task e k n, h))), s)
+stopped_beside old then new files came task design many said why t k l s (inr (inr d)) = (inr (inr (inr (done_by old files came task design (Err why) t (done_earlier old then came task design (Err why) k d)))), s)
+
+pub texts_beside : (old then new : FilesSeen) (files : JobFiles) (came : JobTexts) (task : Task) (design : Design) (found : Outcome) (many : ℕ) (said : CertWords) → HaveTexts old files came → AreKept old then → old.came ≤ then.came
+    → IsSaidOf came many said → IsRowFor then new came task design found → (row : IsJobRow old new files task design found) × IsSaidBy old new files task design found row many said
+texts_beside old then new files came task design (Ok found) many said t k l s d = (done_by old files came task design (Ok found) t (done_earlier old then came task design (Ok found) k d), s)
+texts_beside old then new files came task design (Err stop.NoMemory) many said t k l s h = (tt, inl (came, t, s))
+texts_beside old then new files came task design (Err why) many said t k l s h = stopped_beside old then new files came task design many said why t k l s h
+
+-- ---- kinds
+pub kind_of_texts : (old : FilesSeen) (files : JobFiles) (came : JobTexts) → HaveTexts old files came → kind_of files ≡ kind_in came
+kind_of_texts old (controller name) (of_one c) h = refl
+kind_of_texts old (controller name) came h = absurd h
+kind_of_texts old (cascade name later) (of_sections c cs) h = refl
+kind_of_texts old (cascade name later) came h = absurd h
+kind_of_texts old (states name) (of_state_file c) h = refl
+kind_of_texts old (states name) came h = absurd h
+kind_of_texts old (plant_loop name plant) (with_plant c p) h = refl
+kind_of_texts old (plant_loop name plant) came h = absurd h
+kind_of_texts old (cascade_loop name later plant) (sections_with_plant c cs p) h = refl
+kind_of_texts old (cascade_loop name later plant) came h = absurd h
+
+-- what is a controller alone is of that kind
+pub alone_kind : (old : FilesSeen) (files : JobFiles) (came : JobTexts) → HaveTexts old files came → IsAlone came → kind_of files ≡ of_kind.Controller
+alone_kind old files (of_one c) h a = kind_of_texts old files (of_one c) h
+alone_kind old files came h a = absurd a
+
+-- ---- checks
+pub no_checked_texts : (old new : FilesSeen) (files : JobFiles) (name : List ℕ) (why : Stop) → AreUnread old new files why → IsCheckOfRow old new files name (Err why)
+no_checked_texts old new files name stop.NoMemory h = tt
+no_checked_texts old new files name why h = inl h
+
+pub no_certificate : (old then new : FilesSeen) (files : JobFiles) (came : JobTexts) (name : List ℕ) (why : Stop) → HaveTexts old files came → AreKept old then → old.came ≤ then.came → IsUnreadCertificate then new name why
+    → IsCheckOfRow old new files name (Err why)
+no_certificate old then new files came name why t k l h = refused old new files came name why t (unread_earlier old then new name why k.held k.faults l h)
+  where
+    refused : (old new : FilesSeen) (files : JobFiles) (came : JobTexts) (name : List ℕ) (why : Stop) → HaveTexts old files came → IsUnreadCertificate old new name why → IsCheckOfRow old new files name (Err why)
+    refused old new files came name stop.NoMemory t h = tt
+    refused old new files came name why t h = inr (inl (came, t, h))
+
+pub row_of_check : (old then new : FilesSeen) (files : JobFiles) (came : JobTexts) (name : List ℕ) (c : Certificate) (found : Outcome) → HaveTexts old files came → AreKept old then → IsCertificateOf then name c → IsOfCheck came c found
+    → IsCheckOfRow old new files name found
+row_of_check old then new files came name c found t k s h = checked old new files name found (record { texts = came; have_texts = t; written = c; spelled = spelled_earlier old then name c k s; check = h })
+  where
+    checked : (old new : FilesSeen) (files : JobFiles) (name : List ℕ) (found : Outcome) → IsCheckedBy old files name found → IsCheckOfRow old new files name found
+    checked old new files name (Ok found) h = h
+    checked old new files name (Err stop.NoMemory) h = tt
+    checked old new files name (Err why) h = inr (inr h)
+
+-- ---- cells of the table
+-- loops and cascades are asked for stability alone
+pub sections_decided : (property : RootProperty) (flag : Bool) (c : ControllerView) (cs : List ControllerView) (s : CascadeView) (found : Outcome) → has_cell of_kind.Cascade (decides property flag) ≡ true → IsOfSections flag s found
+    → IsOfDecision (decides property flag) (of_sections c cs) (of_series s) found
+sections_decided Stability flag c cs s found h k = k
+sections_decided root.MinimumPhase flag c cs s found h k = absurd (cc)
+
+pub states_decided : (property : RootProperty) (flag : Bool) (c : StateFileView) (s : StateView) (found : Outcome) → has_cell of_kind.States (decides property flag) ≡ true → IsOfStateTable s found
+    → IsOfDecision (decides property flag) (of_state_file c) (of_state_words s) found
+states_decided Stability true c s found h k = k
+states_decided Stability false c s found h k = absurd (cc)
+states_decided root.MinimumPhase flag c s found h k = absurd (cc)
+
+pub loop_done : (task : Task) (e : Evidence) (c : ControllerView) (p : PlantView) (q : QuantisedView) (found : Outcome) → has_cell of_kind.Loop task ≡ true → IsOfLoop (loop_of (q ∷ []) c.sample_time p) found → HasFewCoefficients found
+    → IsTaskDone task e (with_plant c p) (of_words q) found
+loop_done (decides Stability flag) e c p q found h k few = (k, few)
+loop_done task e c p q found h k few = absurd (cc)
+
+pub cascade_loop_done : (task : Task) (e : Evidence) (c : ControllerView) (cs : List ControllerView) (p : PlantView) (s : CascadeView) (found : Outcome) → has_cell of_kind.CascadeLoop task ≡ true
+    → IsOfLoop (loop_of (sections_of s) c.sample_time p) found → IsTaskDone task e (sections_with_plant c cs p) (of_series s) found
+cascade_loop_done (decides Stability flag) e c cs p s found h k = k
+cascade_loop_done task e c cs p s found h k = absurd (cc)

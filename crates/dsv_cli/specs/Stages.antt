@@ -1,0 +1,103 @@
+-- For private contracts: what the stages of a job give, as the table has it.
+use Rattle.std.specs.Prelude.{◌⊎◌, ◌≤◌, ℕ, Option, Ok, Err}
+use Rattle.dsv_base.specs.Seen.{FilesSeen}
+use Rattle.dsv_names.specs.declared.design.Design.{Design}
+use Rattle.dsv_certfile.specs.declared.job.CertWords.{CertWords}
+use Rattle.dsv_command.specs.Table.{Request, Task, decides, seeks_set, checks_form}
+use Rattle.dsv_command.specs.Table.{checks_ellipsoid}
+use Rattle.dsv_command.specs.declared.kind.Kind.{Kind}
+use Rattle.dsv_command.specs.declared.kind.Kind.TheVariants as of_kind
+use Rattle.dsv_report.specs.declared.stop.Stop.TheVariants as stop
+use Rattle.dsv_report.specs.Stops.{Outcome}
+use Rattle.dsv_cli.specs.JobRows as rows
+use Rattle.dsv_cli.specs.JobRows.{JobTexts, of_one, of_sections, of_state_file, with_plant}
+use Rattle.dsv_cli.specs.JobRows.{sections_with_plant, none, certificate, ellipsoid, HasEvidence}
+use Rattle.dsv_cli.specs.JobRows.{IsEvidenceUnread, JobWords, of_words, of_series}
+use Rattle.dsv_cli.specs.JobRows.{of_state_words, BecomeJobWords, AreWordless, IsTaskDone}
+use Rattle.dsv_cli.specs.JobRows.{IsAnswered, IsSaid}
+use Rattle.dsv_cli.specs.declared.evidence.Evidence.{Evidence}
+use Rattle.dsv_cli.specs.declared.evidence.Evidence.TheVariants as of_evidence
+use Rattle.dsv_cli.specs.declared.in_words.InWords.{InWords}
+use Rattle.dsv_cli.specs.declared.in_words.InWords.TheVariants as in_words
+use Rattle.dsv_cli.specs.declared.texts.Texts.{Texts}
+use Rattle.dsv_cli.specs.declared.texts.Texts.TheVariants as texts
+
+-- ---- what came of files
+abbrev pub texts_view : Texts → JobTexts
+texts_view (texts.Controller c) = of_one c
+texts_view (texts.Cascade s) = of_sections s.first s.later.items
+texts_view (texts.States c) = of_state_file c
+texts_view (texts.Loop c p) = with_plant c p
+texts_view (texts.CascadeLoop s p) = sections_with_plant s.first s.later.items p
+
+abbrev pub evidence_view : Evidence → rows.Evidence
+evidence_view of_evidence.Nothing = none
+evidence_view (of_evidence.Certificate c) = certificate c
+evidence_view (of_evidence.Ellipsoid offer) = ellipsoid offer
+
+-- a task has such evidence as it names; the form of an ellipsoid has at most eight places
+abbrev pub IsEvidenceFor : Task → rows.Evidence → Type 0
+IsEvidenceFor (checks_form name) (certificate c) = Unit {0}
+IsEvidenceFor (checks_form name) other = ⊥
+IsEvidenceFor (checks_ellipsoid name) (ellipsoid offer) = offer.form.d ≤ 8
+IsEvidenceFor (checks_ellipsoid name) other = ⊥
+IsEvidenceFor task none = Unit {0}
+IsEvidenceFor task other = ⊥
+
+-- ---- in words
+abbrev pub texts_in : InWords → JobTexts
+texts_in (in_words.Controller c q) = of_one c.now
+texts_in (in_words.Cascade s found) = of_sections s.now.first s.now.later.items
+texts_in (in_words.States c found) = of_state_file c.now
+texts_in (in_words.Loop c p q) = with_plant c.now p.now
+texts_in (in_words.CascadeLoop s p found) =
+    sections_with_plant s.now.first s.now.later.items p.now
+
+abbrev pub words_in : InWords → JobWords
+words_in (in_words.Controller c q) = of_words q
+words_in (in_words.Cascade s found) = of_series found
+words_in (in_words.States c found) = of_state_words found
+words_in (in_words.Loop c p q) = of_words q
+words_in (in_words.CascadeLoop s p found) = of_series found
+
+abbrev pub kind_in : JobTexts → Kind
+kind_in (of_one c) = of_kind.Controller
+kind_in (of_sections c cs) = of_kind.Cascade
+kind_in (of_state_file c) = of_kind.States
+kind_in (with_plant c p) = of_kind.Loop
+kind_in (sections_with_plant c cs p) = of_kind.CascadeLoop
+
+-- ---- from the texts on
+-- the evidence is there, and the texts become words for which the task comes to this
+abbrev pub IsDoneFor : FilesSeen → JobTexts → Task → Design → Outcome → Type 0
+IsDoneFor old came task design found = (evidence : rows.Evidence) × HasEvidence old task evidence
+    × (words : JobWords) × BecomeJobWords design came words
+    × IsTaskDone task evidence came words found
+
+-- the row of a job whose files have these texts
+abbrev pub IsRowFor : FilesSeen → FilesSeen → JobTexts → Task → Design → Outcome → Type 0
+IsRowFor old new came task design (Ok found) = IsDoneFor old came task design (Ok found)
+IsRowFor old new came task design (Err stop.NoMemory) = Unit {0}
+IsRowFor old new came task design (Err why) = IsEvidenceUnread old new task why
+    ⊎ (((evidence : rows.Evidence) × HasEvidence old task evidence × AreWordless design came why)
+    ⊎ IsDoneFor old came task design (Err why))
+
+-- ---- proposers
+-- the task is done without any
+abbrev pub NeedsNoProposer : Task → Type 0
+NeedsNoProposer (decides property schur_cohn) = ⊥
+NeedsNoProposer (seeks_set conflicts) = ⊥
+NeedsNoProposer other = Unit {0}
+
+-- it is a controller alone
+abbrev pub IsAlone : JobTexts → Type 0
+IsAlone (of_one c) = Unit {0}
+IsAlone other = ⊥
+
+abbrev pub IsNoController : InWords → Type 0
+IsNoController subject = IsAlone (texts_in subject) → ⊥
+
+-- ---- the row, with what is said beside it
+abbrev pub IsSaidBeside : FilesSeen → FilesSeen → Option Request → Outcome → ℕ → CertWords → Type 0
+IsSaidBeside old new request found many said = (row : IsAnswered old new request found)
+    × IsSaid old new request found row many said

@@ -1,9 +1,0 @@
-use Rattle.dsv_base.proofs.TakingLemmas.{writes_after, writes_cut}
-use Rattle.dsv_report.specs.Refusals.{quant_text}
-use Rattle.dsv_report.proofs.stops.put_section_quant.Goals as goal
-
-pub returns-in_err-put_section : goal.returns-in_err-put_section
-returns-in_err-put_section g c = writes_cut (quant_text c.args.refusal) c.from_residual.ensures.0 c.in_err-put_section.ensures.cut
-
-pub returns : goal.returns
-returns g c = writes_after c.in_ok-put_section.ensures.whole c.put_quant_refusal.ensures
