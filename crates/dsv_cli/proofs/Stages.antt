@@ -1,6 +1,6 @@
 -- The stages of a job lead to its row.
 use Rattle.std.proofs.Common.{◌≡◌, ◌⊎◌, ◌≤◌, inl, inr, ℕ, List, [], ◌∷◌, subst, refl}
-use Rattle.std.specs.Prelude.{Bool, true, false, Ok, Err}
+use Rattle.std.specs.Prelude.{Bool, true, false, Ok, Err, Option, Some}
 use Rattle.dsv_base.specs.Seen.{FilesSeen}
 use Rattle.dsv_names.specs.declared.design.Design.{Design}
 use Rattle.dsv_names.specs.declared.property.RootProperty.{RootProperty}
@@ -16,19 +16,23 @@ use Rattle.dsv_loop.specs.Loops.{loop_of}
 use Rattle.dsv_certfile.specs.declared.certificate.Certificate.{Certificate}
 use Rattle.dsv_certfile.specs.declared.ellipsoid.Ellipsoid.{Ellipsoid}
 use Rattle.dsv_certfile.specs.declared.job.CertWords.{CertWords}
-use Rattle.dsv_command.specs.Table.{JobFiles, controller, cascade, states, plant_loop, cascade_loop, kind_of, Task, checks_form, checks_ellipsoid, decides, has_cell}
+use Rattle.dsv_command.specs.Table.{Job, does, JobFiles, controller, cascade, states, plant_loop, cascade_loop, kind_of, Task, checks_form, checks_ellipsoid, decides, has_cell}
 use Rattle.dsv_command.specs.declared.kind.Kind.TheVariants as of_kind
+use Rattle.dsv_template.specs.declared.candidate.Candidate.{Candidate}
+use Rattle.dsv_template.specs.declared.shape.Shape.{Shape}
 use Rattle.dsv_report.specs.declared.stop.Stop.{Stop}
 use Rattle.dsv_report.specs.declared.stop.Stop.TheVariants as stop
 use Rattle.dsv_report.specs.Stops.{Outcome}
 use Rattle.dsv_cli.specs.Checking.{IsCertificateOf, IsUnreadCertificate}
 use Rattle.dsv_cli.specs.Ellipsoids.{IsOffer, IsOfferOf}
 use Rattle.dsv_cli.specs.Headline.{AreKept, CameOf, IsSpelled}
-use Rattle.dsv_cli.specs.JobRows.{JobTexts, of_one, of_sections, of_state_file, with_plant, sections_with_plant, HaveTexts, AreUnread, Evidence, none, certificate, ellipsoid, HasEvidence, IsEvidenceUnread, AreWordless, IsTaskDone, IsDoneBy, IsJobRow, IsOfCheck, IsCheckedBy, IsCheckOfRow, of_words, of_series, of_state_words, IsOfSections, IsOfDecision, IsNothing, IsSaidBy, IsSaidOf}
+use Rattle.dsv_cli.specs.JobRows.{JobTexts, of_one, of_sections, of_state_file, with_plant, sections_with_plant, HaveTexts, AreUnread, Evidence, none, certificate, ellipsoid, HasEvidence, IsEvidenceUnread, AreWordless, IsTaskDone, IsDoneBy, IsOfCheck, IsCheckedBy, IsCheckOfRow, of_words, of_series, of_state_words, IsOfSections, IsOfDecision, IsNothing, IsSaidOf}
 use Rattle.dsv_cli.specs.Loops.{IsOfLoop, HasFewCoefficients}
 use Rattle.dsv_cli.specs.States.{IsOfStateTable}
-use Rattle.dsv_cli.specs.Stages.{kind_in, IsAlone, IsDoneFor, IsRowFor}
+use Rattle.dsv_cli.specs.Proposers.{AreSetsAsked}
+use Rattle.dsv_cli.specs.Stages.{kind_in, IsAlone, IsDoneFor, IsRowFor, IsRowWith, IsSaidBeside}
 use Rattle.dsv_cli.proofs.FileBytes.{unread_earlier, offer_earlier}
+use Rattle.dsv_cli.proofs.Unasked.{sets_of_stop}
 
 -- ---- evidence, from files that were read earlier
 spelled_earlier : (old then : FilesSeen) (name : List ℕ) (c : Certificate) → AreKept old then → IsCertificateOf then name c → IsCertificateOf old name c
@@ -59,41 +63,44 @@ pub lacks_words : (old new : FilesSeen) (came : JobTexts) (task : Task) (design 
 lacks_words old new came task design e stop.NoMemory n h = tt
 lacks_words old new came task design e why n h = inr (inl (e, n, h))
 
-pub task_done : (old new : FilesSeen) (came : JobTexts) (task : Task) (design : Design) (found : Outcome) → IsDoneFor old came task design found → IsRowFor old new came task design found
+task_done : (old new : FilesSeen) (came : JobTexts) (task : Task) (design : Design) (found : Outcome) → IsDoneFor old came task design found → IsRowFor old new came task design found
 task_done old new came task design (Ok found) d = d
 task_done old new came task design (Err stop.NoMemory) d = tt
 task_done old new came task design (Err why) d = inr (inr d)
 
-done_earlier : (old then : FilesSeen) (came : JobTexts) (task : Task) (design : Design) (found : Outcome) → AreKept old then → IsDoneFor then came task design found → IsDoneFor old came task design found
-done_earlier old then came task design found k (e, n, w, b, d) = (e, evidence_earlier old then task e k n, w, b, d)
+abbrev done_earlier : (old then : FilesSeen) (came : JobTexts) (task : Task) (design : Design) (found : Outcome) → AreKept old then → IsDoneFor then came task design found → IsDoneFor old came task design found
+done_earlier old then came task design found k d = (d.0, evidence_earlier old then task d.0 k d.1, d.2, d.3, d.4)
+
+-- the proposers were asked for the words of what is done
+pub row_with : {B P : Type 0} (place : B → P) (last : B → Option Candidate) (to_come : B → Shape → Option (List Candidate)) (before after : List B) (old new : FilesSeen) (came : JobTexts) (task : Task) (design : Design) (found : Outcome) (d : IsDoneFor old came task design found)
+    → AreSetsAsked place last to_come (λ q. d.2 ≡ of_words q) before after found → IsRowWith old new came task design found (λ becomes. AreSetsAsked place last to_come becomes before after found)
+row_with place last to_come before after old new came task design (Ok found) d h = (d, h)
+row_with place last to_come before after old new came task design (Err why) d h = (task_done old new came task design (Err why) d, sets_of_stop place last to_come (λ q. d.2 ≡ of_words q) (λ q. ⊥) before after why h)
 
 -- ---- from the files on
 abbrev done_by : (old : FilesSeen) (files : JobFiles) (came : JobTexts) (task : Task) (design : Design) (found : Outcome) → HaveTexts old files came → IsDoneFor old came task design found → IsDoneBy old files task design found
 done_by old files came task design found t d = record { texts = came; have_texts = t; evidence = d.0; has_evidence = d.1; words = d.2; become_words = d.3; done = d.4 }
 
--- a job's row, with what is said beside it
-abbrev IsBeside : FilesSeen → FilesSeen → JobFiles → Task → Design → Outcome → ℕ → CertWords → Type 0
-IsBeside old new files task design found many said = (row : IsJobRow old new files task design found) × IsSaidBy old new files task design found row many said
-
 -- a file isn't what it has to be
-pub unread_beside : (old new : FilesSeen) (files : JobFiles) (task : Task) (design : Design) (why : Stop) (many : ℕ) (said : CertWords) → AreUnread old new files why → IsNothing many said
-    → (row : IsJobRow old new files task design (Err why)) × IsSaidBy old new files task design (Err why) row many said
-unread_beside old new files task design stop.NoMemory many said h n = (tt, inr n)
-unread_beside old new files task design why many said h n = (inl h, n)
+pub unread_beside : (old new : FilesSeen) (job : Job) (why : Stop) (many : ℕ) (said : CertWords) (AreAsked : (QuantisedView → Type 0) → Type 0) → AreUnread old new job.files why → IsNothing many said → AreAsked (λ q. ⊥)
+    → IsSaidBeside old new (Some (does job)) (Err why) many said AreAsked
+unread_beside old new job stop.NoMemory many said AreAsked h n a = (tt, inr n, a)
+unread_beside old new job why many said AreAsked h n a = (inl h, n, a)
 
 -- they are, and were read before the rest
-stopped_beside : (old then new : FilesSeen) (files : JobFiles) (came : JobTexts) (task : Task) (design : Design) (many : ℕ) (said : CertWords) (why : Stop) → HaveTexts old files came → AreKept old then → old.came ≤ then.came → IsSaidOf came many said
-    → IsEvidenceUnread then new task why ⊎ (((e : Evidence) × HasEvidence then task e × AreWordless design came why) ⊎ IsDoneFor then came task design (Err why)) → IsBeside old new files task design (Err why) many said
-stopped_beside old then new files came task design many said stop.NoMemory t k l s h = (tt, inl (came, t, s))
-stopped_beside old then new files came task design many said why t k l s (inl h) = (inr (inl (came, t, evidence_unread_earlier old then new task why k l h)), s)
-stopped_beside old then new files came task design many said why t k l s (inr (inl (e, n, h))) = (inr (inr (inl (came, e, t, evidence_earlier old then task e k n, h))), s)
-stopped_beside old then new files came task design many said why t k l s (inr (inr d)) = (inr (inr (inr (done_by old files came task design (Err why) t (done_earlier old then came task design (Err why) k d)))), s)
+stopped_beside : (old then new : FilesSeen) (job : Job) (came : JobTexts) (many : ℕ) (said : CertWords) (AreAsked : (QuantisedView → Type 0) → Type 0) (why : Stop) → HaveTexts old job.files came → AreKept old then → old.came ≤ then.came → IsSaidOf came many said
+    → IsEvidenceUnread then new job.task why ⊎ (((e : Evidence) × HasEvidence then job.task e × AreWordless job.design came why) ⊎ IsDoneFor then came job.task job.design (Err why)) → AreAsked (λ q. ⊥)
+    → IsSaidBeside old new (Some (does job)) (Err why) many said AreAsked
+stopped_beside old then new job came many said AreAsked stop.NoMemory t k l s h a = (tt, inl (came, t, s), a)
+stopped_beside old then new job came many said AreAsked why t k l s (inl h) a = (inr (inl (came, t, evidence_unread_earlier old then new job.task why k l h)), s, a)
+stopped_beside old then new job came many said AreAsked why t k l s (inr (inl (e, n, h))) a = (inr (inr (inl (came, e, t, evidence_earlier old then job.task e k n, h))), s, a)
+stopped_beside old then new job came many said AreAsked why t k l s (inr (inr d)) a = (inr (inr (inr (done_by old job.files came job.task job.design (Err why) t (done_earlier old then came job.task job.design (Err why) k d)))), s, a)
 
-pub texts_beside : (old then new : FilesSeen) (files : JobFiles) (came : JobTexts) (task : Task) (design : Design) (found : Outcome) (many : ℕ) (said : CertWords) → HaveTexts old files came → AreKept old then → old.came ≤ then.came
-    → IsSaidOf came many said → IsRowFor then new came task design found → (row : IsJobRow old new files task design found) × IsSaidBy old new files task design found row many said
-texts_beside old then new files came task design (Ok found) many said t k l s d = (done_by old files came task design (Ok found) t (done_earlier old then came task design (Ok found) k d), s)
-texts_beside old then new files came task design (Err stop.NoMemory) many said t k l s h = (tt, inl (came, t, s))
-texts_beside old then new files came task design (Err why) many said t k l s h = stopped_beside old then new files came task design many said why t k l s h
+pub texts_beside : (old then new : FilesSeen) (job : Job) (came : JobTexts) (found : Outcome) (many : ℕ) (said : CertWords) (AreAsked : (QuantisedView → Type 0) → Type 0) → HaveTexts old job.files came → AreKept old then → old.came ≤ then.came
+    → IsSaidOf came many said → IsRowWith then new came job.task job.design found AreAsked → IsSaidBeside old new (Some (does job)) found many said AreAsked
+texts_beside old then new job came (Ok found) many said AreAsked t k l s (d, a) = (done_by old job.files came job.task job.design (Ok found) t (done_earlier old then came job.task job.design (Ok found) k d), s, a)
+texts_beside old then new job came (Err stop.NoMemory) many said AreAsked t k l s (h, a) = (tt, inl (came, t, s), a)
+texts_beside old then new job came (Err why) many said AreAsked t k l s (h, a) = stopped_beside old then new job came many said AreAsked why t k l s h a
 
 -- ---- kinds
 pub kind_of_texts : (old : FilesSeen) (files : JobFiles) (came : JobTexts) → HaveTexts old files came → kind_of files ≡ kind_in came

@@ -9,6 +9,7 @@ use Rattle.dsv_lyapunov.specs.declared.kept.KeptForm.{KeptForm}
 use Rattle.dsv_names.specs.declared.property.RootProperty.{RootProperty}
 use Rattle.dsv_report.specs.Printing.{HasPlaces}
 use Rattle.dsv_report.specs.declared.answers.Answer.TheVariants as answer
+use Rattle.dsv_report.specs.declared.stop.Stop.{Stop}
 use Rattle.dsv_report.specs.declared.stop.Stop.TheVariants as stop
 use Rattle.dsv_report.specs.Stops.{Outcome}
 use Rattle.dsv_quantiser.specs.QuantisedView.{QuantisedView}
@@ -130,6 +131,17 @@ sets_asked_for place last to_come R S before after found f h = record {
     weaker : {P Q : List KeptSet → Type 0} (found : Outcome) → ((kept : List KeptSet) → P kept → Q kept) → IfNoInvariant found P → IfNoInvariant found Q
     weaker (Ok (answer.NoInvariant kept)) f h = f kept h
     weaker found f h = tt
+
+-- of why there is no answer nothing is said for words
+pub sets_of_stop : {B P : Type 0} (place : B → P) (last : B → Option Candidate) (to_come : B → Shape → Option (List Candidate)) (R S : QuantisedView → Type 0) (before after : List B) (why : Stop)
+    → AreSetsAsked place last to_come R before after (Err why) → AreSetsAsked place last to_come S before after (Err why)
+sets_of_stop place last to_come R S before after why h = record {
+  suffix = h.suffix;
+  unasked = h.unasked;
+  offered = h.offered;
+  none_left = h.none_left;
+  asked = tt;
+}
 
 -- no form is in what needs no proposer, and in what sets decide
 pub plain_places : (found : Outcome) → IsPlain found → IfOk found HasPlaces

@@ -323,8 +323,8 @@ IsSaid old new (Some (does job)) found row many said =
     IsSaidBy old new job.files job.task job.design found row many said
 IsSaid old new other found row many said = IsNothing many said
 
--- these are the words that the controller of a job's files becomes
-abbrev pub FileBecomes : FilesSeen → Option Request → QuantisedView → Type 0
-FileBecomes old (Some (does job)) q = (texts : JobTexts) × HaveTexts old job.files texts
-    × BecomeJobWords job.design texts (of_words q)
-FileBecomes old other q = ⊥
+-- these are the words in the row of an answer to a job, those of one controller
+abbrev pub AreInRow : (old new : FilesSeen) (request : Option Request) (found : Outcome)
+    → IsAnswered old new request found → QuantisedView → Type 0
+AreInRow old new (Some (does job)) (Ok found) row = λ q. row.words ≡ of_words q
+AreInRow old new other found row = λ q. ⊥

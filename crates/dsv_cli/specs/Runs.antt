@@ -3,18 +3,19 @@ use Rattle.std.specs.Prelude.{◌≡◌, ℕ, false, List, IfSome}
 use Rattle.dsv_base.specs.Seen.{FilesSeen, SinkSeen}
 use Rattle.dsv_certfile.specs.Typed.{IsTyped}
 use Rattle.dsv_command.specs.Requests.{reason_of, request_of}
+use Rattle.dsv_quantiser.specs.QuantisedView.{QuantisedView}
 use Rattle.dsv_report.specs.Headings.{asked_by}
 use Rattle.dsv_report.specs.Output.{run_text, certificate_written}
 use Rattle.dsv_report.specs.Report.{status_of}
 use Rattle.dsv_cli.specs.declared.command.Done.{Done}
-use Rattle.dsv_cli.specs.JobRows.{IsAnswered, IsSaid}
+use Rattle.dsv_cli.specs.JobRows.{IsAnswered, IsSaid, AreInRow}
 use Rattle.dsv_cli.specs.Headline.{AreKept, IsWritten, IfWhole}
 use Rattle.dsv_cli.specs.Proposers.{IfNoForm, WantsSchurCohn, is_low}
 
--- A run for these arguments: the files before and after it, the sink before and after it, and how
--- it is done.
+-- A run for these arguments: the files before and after it, the sink before and after it, how it is
+-- done, and what is said of the proposers of sets for words of a controller.
 pub record IsDone (old new : FilesSeen) (from to : SinkSeen) (arguments : List (List ℕ))
-    (done : Done) : Type 0 where
+    (done : Done) (AreAsked : (QuantisedView → Type 0) → Type 0) : Type 0 where
   -- the outcome's row in the table holds
   pub explained : IsAnswered old new (request_of arguments) done.outcome
   -- a polynomial of order 0 or 1, or 2 with small coefficients, is always decided
@@ -24,6 +25,8 @@ pub record IsDone (old new : FilesSeen) (from to : SinkSeen) (arguments : List (
   -- what a certificate says of the words is what the texts of this row have, and so is how many
   -- states the report of a state-space controller says
   pub said : IsSaid old new (request_of arguments) done.outcome explained done.states done.words
+  -- the proposers of sets were asked for the words of this row
+  pub sets : AreAsked (AreInRow old new (request_of arguments) done.outcome explained)
   -- what the files hold is as before
   pub kept : AreKept old new
   -- the certificate that the job wants, or the reason that is asked for, or else the outcome's

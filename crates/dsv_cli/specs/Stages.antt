@@ -1,7 +1,8 @@
 -- For private contracts: what the stages of a job give, as the table has it.
-use Rattle.std.specs.Prelude.{◌⊎◌, ◌≤◌, ℕ, Option, Ok, Err}
+use Rattle.std.specs.Prelude.{◌≡◌, ◌⊎◌, ◌≤◌, ℕ, Option, Ok, Err}
 use Rattle.dsv_base.specs.Seen.{FilesSeen}
 use Rattle.dsv_names.specs.declared.design.Design.{Design}
+use Rattle.dsv_quantiser.specs.QuantisedView.{QuantisedView}
 use Rattle.dsv_certfile.specs.declared.job.CertWords.{CertWords}
 use Rattle.dsv_command.specs.Table.{Request, Task, decides, seeks_set, checks_form}
 use Rattle.dsv_command.specs.Table.{checks_ellipsoid}
@@ -14,7 +15,7 @@ use Rattle.dsv_cli.specs.JobRows.{JobTexts, of_one, of_sections, of_state_file, 
 use Rattle.dsv_cli.specs.JobRows.{sections_with_plant, none, certificate, ellipsoid, HasEvidence}
 use Rattle.dsv_cli.specs.JobRows.{IsEvidenceUnread, JobWords, of_words, of_series}
 use Rattle.dsv_cli.specs.JobRows.{of_state_words, BecomeJobWords, AreWordless, IsTaskDone}
-use Rattle.dsv_cli.specs.JobRows.{IsAnswered, IsSaid}
+use Rattle.dsv_cli.specs.JobRows.{IsAnswered, IsSaid, AreInRow}
 use Rattle.dsv_cli.specs.declared.evidence.Evidence.{Evidence}
 use Rattle.dsv_cli.specs.declared.evidence.Evidence.TheVariants as of_evidence
 use Rattle.dsv_cli.specs.declared.in_words.InWords.{InWords}
@@ -82,6 +83,18 @@ IsRowFor old new came task design (Err why) = IsEvidenceUnread old new task why
     ⊎ (((evidence : rows.Evidence) × HasEvidence old task evidence × AreWordless design came why)
     ⊎ IsDoneFor old came task design (Err why))
 
+-- these are the words in that row, those of one controller
+abbrev pub AreInRowFor : (old new : FilesSeen) (came : JobTexts) (task : Task) (design : Design)
+    (found : Outcome) → IsRowFor old new came task design found → QuantisedView → Type 0
+AreInRowFor old new came task design (Ok found) row = λ q. row.2 ≡ of_words q
+AreInRowFor old new came task design (Err why) row = λ q. ⊥
+
+-- the row, with what is said of proposers for its words
+abbrev pub IsRowWith : FilesSeen → FilesSeen → JobTexts → Task → Design → Outcome
+    → ((QuantisedView → Type 0) → Type 0) → Type 0
+IsRowWith old new came task design found AreAsked = (row : IsRowFor old new came task design found)
+    × AreAsked (AreInRowFor old new came task design found row)
+
 -- ---- proposers
 -- the task is done without any
 abbrev pub NeedsNoProposer : Task → Type 0
@@ -97,7 +110,8 @@ IsAlone other = ⊥
 abbrev pub IsNoController : InWords → Type 0
 IsNoController subject = IsAlone (texts_in subject) → ⊥
 
--- ---- the row, with what is said beside it
-abbrev pub IsSaidBeside : FilesSeen → FilesSeen → Option Request → Outcome → ℕ → CertWords → Type 0
-IsSaidBeside old new request found many said = (row : IsAnswered old new request found)
-    × IsSaid old new request found row many said
+-- ---- the row, with what is said beside it, and of proposers for its words
+abbrev pub IsSaidBeside : FilesSeen → FilesSeen → Option Request → Outcome → ℕ → CertWords
+    → ((QuantisedView → Type 0) → Type 0) → Type 0
+IsSaidBeside old new request found many said AreAsked = (row : IsAnswered old new request found)
+    × IsSaid old new request found row many said × AreAsked (AreInRow old new request found row)

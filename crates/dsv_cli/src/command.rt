@@ -13,7 +13,6 @@ ghost use Rattle.dsv_report.specs.Reasons.{reason_text};
 ghost use Rattle.dsv_report.specs.Report.{status_of};
 ghost use Rattle.dsv_report.specs.declared.stop.Stop.TheVariants as stop;
 ghost use Rattle.dsv_cli.specs.Headline.{IsWritten, IfWhole};
-ghost use Rattle.dsv_cli.specs.JobRows.{FileBecomes};
 ghost use Rattle.dsv_cli.specs.Proposers.{IsAsked, AreSetsAsked};
 ghost use Rattle.dsv_cli.specs.Proposers.{WantsForm, WantsSet, WantsSchurCohn};
 ghost use Rattle.dsv_cli.specs.Runs.{IsDone};
@@ -131,14 +130,13 @@ pub fn run<F: Files, K: Sink>(
     sink: &mut K,
     proposers: &mut Proposers,
 ) -> Done
+    // The answer's row, and what becomes of the proposers of sets, asked for the words in this row.
+    // A list that the answer doesn't need stays as it was.
     ensures run { IsDone (F.seen files.old) (F.seen files.new) (K.seen sink.old) (K.seen sink.new)
-        (map string_bytes arguments.now) result }
-    // What becomes of the proposers: a list that the answer doesn't need stays as it was.
-    ensures sets { AreSetsAsked (λ b. b.ptr)
+        (map string_bytes arguments.now) result (λ becomes. AreSetsAsked (λ b. b.ptr)
         (λ b. (⟦<dyn InvariantProposer as InvariantProposer>⟧ b.vtable).last b.value)
         (λ b shape. (⟦<dyn InvariantProposer as InvariantProposer>⟧ b.vtable).to_come b.value shape)
-        (FileBecomes (F.seen files.old) (request_of (map string_bytes arguments.now)))
-        proposers.old.sets.items proposers.new.sets.items result.outcome }
+        becomes proposers.old.sets.items proposers.new.sets.items result.outcome) }
     ensures forms { IsAsked (λ b. b.ptr)
         (λ b. (⟦<dyn FormProposer as FormProposer>⟧ b.vtable).last b.value)
         (λ b cs. sure b cs)

@@ -7,10 +7,10 @@ ghost use Rattle.dsv_command.specs.Views.{files_view, job_view, task_view};
 ghost use Rattle.dsv_report.specs.Printing.{HasPlaces};
 ghost use Rattle.dsv_cli.specs.Causes.{IsPlain};
 ghost use Rattle.dsv_cli.specs.Headline.{AreKept};
-ghost use Rattle.dsv_cli.specs.JobRows.{BecomeJobWords, FileBecomes, IsTaskDone, of_words};
+ghost use Rattle.dsv_cli.specs.JobRows.{IsTaskDone, of_words};
 ghost use Rattle.dsv_cli.specs.Proposers.{IsAsked, AreSetsAsked, AsksSchurCohn, Decides, Seeks};
 ghost use Rattle.dsv_cli.specs.Proposers.{WantsForm, WantsSchurCohn, WantsSet};
-ghost use Rattle.dsv_cli.specs.Stages.{IsAlone, IsEvidenceFor, IsNoController, IsRowFor};
+ghost use Rattle.dsv_cli.specs.Stages.{IsAlone, IsEvidenceFor, IsNoController, IsRowWith};
 ghost use Rattle.dsv_cli.specs.Stages.{IsSaidBeside, evidence_view, kind_in, texts_in};
 ghost use Rattle.dsv_cli.specs.Stages.{texts_view, words_in};
 
@@ -138,15 +138,13 @@ fn texts_outcome<F: Files>(
     proposers: &mut Proposers,
 ) -> Result<Answer, Stop>
     requires { has_cell (kind_in (texts_view texts.now)) (task_view job.now.task) ≡ true }
-    ensures row { IsRowFor (F.seen files.old) (F.seen files.new) (texts_view texts.now)
-        (task_view job.now.task) job.now.design result }
-    ensures kept { AreKept (F.seen files.old) (F.seen files.new) }
-    ensures places { IfOk result HasPlaces }
-    ensures sets { AreSetsAsked (λ b. b.ptr)
+    ensures row { IsRowWith (F.seen files.old) (F.seen files.new) (texts_view texts.now)
+        (task_view job.now.task) job.now.design result (λ becomes. AreSetsAsked (λ b. b.ptr)
         (λ b. (⟦<dyn InvariantProposer as InvariantProposer>⟧ b.vtable).last b.value)
         (λ b shape. (⟦<dyn InvariantProposer as InvariantProposer>⟧ b.vtable).to_come b.value shape)
-        (λ w. BecomeJobWords job.now.design (texts_view texts.now) (of_words w))
-        proposers.old.sets.items proposers.new.sets.items result }
+        becomes proposers.old.sets.items proposers.new.sets.items result) }
+    ensures kept { AreKept (F.seen files.old) (F.seen files.new) }
+    ensures places { IfOk result HasPlaces }
     ensures forms { IsAsked (λ b. b.ptr)
         (λ b. (⟦<dyn FormProposer as FormProposer>⟧ b.vtable).last b.value)
         (λ b cs. sure b cs)
@@ -172,15 +170,14 @@ pub(crate) fn job_outcome<F: Files>(
 ) -> Found
     requires { has_cell (kind_of (files_view job.now.files)) (task_view job.now.task) ≡ true }
     ensures row { IsSaidBeside (F.seen files.old) (F.seen files.new)
-        (Some (does (job_view job.now))) result.outcome result.states result.words }
+        (Some (does (job_view job.now))) result.outcome result.states result.words
+        (λ becomes. AreSetsAsked (λ b. b.ptr)
+        (λ b. (⟦<dyn InvariantProposer as InvariantProposer>⟧ b.vtable).last b.value)
+        (λ b shape. (⟦<dyn InvariantProposer as InvariantProposer>⟧ b.vtable).to_come b.value shape)
+        becomes proposers.old.sets.items proposers.new.sets.items result.outcome) }
     ensures lawful { IsWords result.words }
     ensures kept { AreKept (F.seen files.old) (F.seen files.new) }
     ensures places { IfOk result.outcome HasPlaces }
-    ensures sets { AreSetsAsked (λ b. b.ptr)
-        (λ b. (⟦<dyn InvariantProposer as InvariantProposer>⟧ b.vtable).last b.value)
-        (λ b shape. (⟦<dyn InvariantProposer as InvariantProposer>⟧ b.vtable).to_come b.value shape)
-        (FileBecomes (F.seen files.old) (Some (does (job_view job.now))))
-        proposers.old.sets.items proposers.new.sets.items result.outcome }
     ensures forms { IsAsked (λ b. b.ptr)
         (λ b. (⟦<dyn FormProposer as FormProposer>⟧ b.vtable).last b.value)
         (λ b cs. sure b cs)

@@ -1,10 +1,8 @@
 // The proposers that a run may ask, and the command with those that are built in.
 ghost use Rattle.std.specs.Prelude.{◌≡◌, [], ◌∷◌, Some, map, string_bytes};
-ghost use Rattle.dsv_command.specs.Requests.{request_of};
 ghost use Rattle.dsv_invariant.specs.Shapes.{shape_of};
 ghost use Rattle.dsv_template.specs.declared.shape.Shape.{Shape};
 ghost use Rattle.dsv_template.specs.Boxes.{boxes};
-ghost use Rattle.dsv_cli.specs.JobRows.{FileBecomes};
 ghost use Rattle.dsv_cli.specs.Proposers.{IfNoInvariant};
 ghost use Rattle.dsv_cli.specs.Runs.{IsDone};
 ghost use Rattle.dsv_cli.specs.Sets.{AreOfJob};
@@ -37,13 +35,11 @@ fn run_with<F: Files, K: Sink>(
     requires boxes { (shape : Shape)
         → (⟦<dyn InvariantProposer as InvariantProposer>⟧ first.vtable).to_come first.value shape
         ≡ Some (boxes shape) }
-    ensures run { IsDone (F.seen files.old) (F.seen files.new) (K.seen sink.old) (K.seen sink.new)
-        (map string_bytes arguments.now) result }
     // No set: each of the first 32 boxes was judged, and one that is good has a search that gave
     // up.
-    ensures boxes { IfNoInvariant result.outcome (AreOfJob
-        (FileBecomes (F.seen files.old) (request_of (map string_bytes arguments.now)))
-        (λ q. Some (boxes (shape_of q)) ∷ [])) }
+    ensures run { IsDone (F.seen files.old) (F.seen files.new) (K.seen sink.old) (K.seen sink.new)
+        (map string_bytes arguments.now) result (λ becomes. IfNoInvariant result.outcome
+        (AreOfJob becomes (λ q. Some (boxes (shape_of q)) ∷ []))) }
 {
     let Ok(second) = Box::new(alloc, SumProposer::new()) else {
         return put_refusal(sink, Stop::NoMemory);
@@ -65,13 +61,11 @@ pub fn run_with_built_in<F: Files, K: Sink>(
     files: &mut F,
     sink: &mut K,
 ) -> Done
-    ensures run { IsDone (F.seen files.old) (F.seen files.new) (K.seen sink.old) (K.seen sink.new)
-        (map string_bytes arguments.now) result }
     // No set: each of the first 32 boxes was judged, and one that is good has a search that gave
     // up.
-    ensures boxes { IfNoInvariant result.outcome (AreOfJob
-        (FileBecomes (F.seen files.old) (request_of (map string_bytes arguments.now)))
-        (λ q. Some (boxes (shape_of q)) ∷ [])) }
+    ensures run { IsDone (F.seen files.old) (F.seen files.new) (K.seen sink.old) (K.seen sink.new)
+        (map string_bytes arguments.now) result (λ becomes. IfNoInvariant result.outcome
+        (AreOfJob becomes (λ q. Some (boxes (shape_of q)) ∷ []))) }
 {
     let Ok(first) = Box::new(alloc, BoxProposer::new()) else {
         return put_refusal(sink, Stop::NoMemory);

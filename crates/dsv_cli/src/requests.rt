@@ -6,7 +6,6 @@ ghost use Rattle.dsv_command.specs.Views.{request_view};
 ghost use Rattle.dsv_report.specs.Printing.{HasPlaces};
 ghost use Rattle.dsv_cli.specs.Causes.{IsPlain};
 ghost use Rattle.dsv_cli.specs.Headline.{IsOfGeneration, AreKept};
-ghost use Rattle.dsv_cli.specs.JobRows.{FileBecomes};
 ghost use Rattle.dsv_cli.specs.Proposers.{IsAsked, AreSetsAsked};
 ghost use Rattle.dsv_cli.specs.Stages.{IsSaidBeside};
 ghost use Rattle.dsv_cli.specs.Proposers.{WantsForm, WantsSet, WantsSchurCohn};
@@ -39,15 +38,14 @@ pub(crate) fn request_outcome<F: Files>(
 ) -> Found
     requires { IsInTable (request_view request.now) }
     ensures row { IsSaidBeside (F.seen files.old) (F.seen files.new)
-        (Some (request_view request.now)) result.outcome result.states result.words }
+        (Some (request_view request.now)) result.outcome result.states result.words
+        (λ becomes. AreSetsAsked (λ b. b.ptr)
+        (λ b. (⟦<dyn InvariantProposer as InvariantProposer>⟧ b.vtable).last b.value)
+        (λ b shape. (⟦<dyn InvariantProposer as InvariantProposer>⟧ b.vtable).to_come b.value shape)
+        becomes proposers.old.sets.items proposers.new.sets.items result.outcome) }
     ensures kept { AreKept (F.seen files.old) (F.seen files.new) }
     ensures places { IfOk result.outcome HasPlaces }
     ensures lawful { IsWords result.words }
-    ensures sets { AreSetsAsked (λ b. b.ptr)
-        (λ b. (⟦<dyn InvariantProposer as InvariantProposer>⟧ b.vtable).last b.value)
-        (λ b shape. (⟦<dyn InvariantProposer as InvariantProposer>⟧ b.vtable).to_come b.value shape)
-        (FileBecomes (F.seen files.old) (Some (request_view request.now)))
-        proposers.old.sets.items proposers.new.sets.items result.outcome }
     ensures forms { IsAsked (λ b. b.ptr)
         (λ b. (⟦<dyn FormProposer as FormProposer>⟧ b.vtable).last b.value)
         (λ b cs. sure b cs)

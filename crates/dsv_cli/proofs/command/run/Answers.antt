@@ -1,15 +1,17 @@
 use Rattle.std.proofs.Common.{rules, ◌≡◌, Some, None, map, string_bytes, subst}
-use Rattle.std.specs.Prelude.{IfSome}
+use Rattle.std.specs.Prelude.{Err, IfSome}
+use Rattle.dsv_quantiser.specs.QuantisedView.{QuantisedView}
 use Rattle.dsv_certfile.specs.Typed.{IsTyped}
 use Rattle.dsv_command.specs.Views.{reason_view, request_view}
 use Rattle.dsv_command.specs.Requests.{reason_of, request_of}
 use Rattle.dsv_report.specs.Output.{output_of, certificate_written}
 use Rattle.dsv_report.specs.Report.{status_of}
+use Rattle.dsv_report.specs.declared.stop.Stop.TheVariants as stop
 use Rattle.dsv_cli.specs.Headline.{IsWritten, IfWhole}
 use Rattle.dsv_cli.specs.Proposers.{AreSetsAsked, IsAsked, WantsForm, WantsSet, WantsSchurCohn}
-use Rattle.dsv_cli.specs.JobRows.{FileBecomes}
 use Rattle.dsv_cli.specs.Stages.{IsSaidBeside}
 use Rattle.dsv_cli.proofs.RunRows.{done_by, asks_why, asks_nothing}
+use Rattle.dsv_cli.proofs.Unasked.{sets_unasked}
 use Rattle.dsv_cli.proofs.command.run.Goals as goal
 
 pub returns-in-Ok-Asks-clause-run : goal.returns-in-Ok-Asks-clause-run
@@ -29,23 +31,18 @@ returns-in-Ok-Asks-clause-run g c =
     let written = subst (λ asked. IsWritten from to put.result.status (status_of found.result.outcome) (output_of asked found.result.words found.result.outcome)) heading p.written in
     let typed = subst (λ asked. IfWhole put.result.status (IfSome (certificate_written asked found.result.words found.result.outcome) IsTyped)) heading p.typed in
     let request = Some (request_view c.in-Ok-Asks.request) in
-    let beside : IsSaidBeside before after request put.result.outcome put.result.states put.result.words = rw p.outcome (rw p.words (rw p.states f.row)) in
-    done_by before after from to arguments request None put.result e none (record {
+    let sets = c.args.proposers.now.sets.items in
+    let left = found.new.proposers.sets.items in
+    let AreAsked : (QuantisedView → Type 0) → Type 0 = λ becomes. AreSetsAsked (λ b. b.ptr) (λ b. (goal.InvariantProposer-dyn g (b.vtable, b.value)).last b.value) (λ b shape. (goal.InvariantProposer-dyn g (b.vtable, b.value)).to_come b.value shape) becomes sets left put.result.outcome in
+    let beside : IsSaidBeside before after request put.result.outcome put.result.states put.result.words AreAsked = rw p.outcome (rw p.words (rw p.states f.row)) in
+    done_by before after from to arguments request None put.result AreAsked e none (record {
       answered = beside.0;
       said = beside.1;
+      sets = beside.2;
       kept = f.kept;
       written = rw p.outcome (rw p.words (rw p.states written));
       typed = rw p.outcome (rw p.words (rw p.states typed));
     })
-
-pub returns-in-Ok-Asks-clause-sets : goal.returns-in-Ok-Asks-clause-sets
-returns-in-Ok-Asks-clause-sets g c =
-    let e : Some (request_view c.in-Ok-Asks.request) ≡ request_of (map string_bytes c.args.arguments.now) = search rules in
-    let found = c.request_outcome-found in
-    rw c.put_found.ensures.outcome (subst
-    (λ request. AreSetsAsked (λ b. b.ptr) (λ b. (goal.InvariantProposer-dyn g (b.vtable, b.value)).last b.value) (λ b shape. (goal.InvariantProposer-dyn g (b.vtable, b.value)).to_come b.value shape)
-    (FileBecomes (g.F.Files.seen c.args.files.now) request) c.args.proposers.now.sets.items found.new.proposers.sets.items found.result.outcome)
-    e found.ensures.sets)
 
 pub returns-in-Ok-Asks-clause-forms : goal.returns-in-Ok-Asks-clause-forms
 returns-in-Ok-Asks-clause-forms g c =
@@ -74,7 +71,10 @@ returns-in-Ok-Explains-clause-run g c =
     let e : None ≡ request_of arguments = search rules in
     let n : Some (reason_view c.in-Ok-Explains.reason) ≡ reason_of arguments = search rules in
     let p = c.put_explained.ensures in
-    asks_why (g.F.Files.seen c.args.files.now) (g.K.Sink.seen c.args.sink.now) (g.K.Sink.seen c.put_explained.new.sink) arguments (reason_view c.in-Ok-Explains.reason) c.put_explained.result e n p.outcome p.words p.states p.written
+    let sets = c.args.proposers.now.sets.items in
+    let found = c.put_explained.result in
+    asks_why (g.F.Files.seen c.args.files.now) (g.K.Sink.seen c.args.sink.now) (g.K.Sink.seen c.put_explained.new.sink) arguments (reason_view c.in-Ok-Explains.reason) found (λ becomes. AreSetsAsked (λ b. b.ptr) (λ b. (goal.InvariantProposer-dyn g (b.vtable, b.value)).last b.value) (λ b shape. (goal.InvariantProposer-dyn g (b.vtable, b.value)).to_come b.value shape) becomes sets sets found.outcome)
+    e n p.outcome p.words p.states p.written (rw p.outcome (sets_unasked (λ b. b.ptr) (λ b. (goal.InvariantProposer-dyn g (b.vtable, b.value)).last b.value) (λ b shape. (goal.InvariantProposer-dyn g (b.vtable, b.value)).to_come b.value shape) (λ q. ⊥) sets (Err stop.Usage) tt))
 
 pub returns-in-Ok-AsksNothing-clause-run : goal.returns-in-Ok-AsksNothing-clause-run
 returns-in-Ok-AsksNothing-clause-run g c =
@@ -82,4 +82,7 @@ returns-in-Ok-AsksNothing-clause-run g c =
     let e : None ≡ request_of arguments = search rules in
     let n : None ≡ reason_of arguments = search rules in
     let p = c.put_refusal.ensures in
-    asks_nothing (g.F.Files.seen c.args.files.now) (g.K.Sink.seen c.args.sink.now) (g.K.Sink.seen c.put_refusal.new.sink) arguments c.put_refusal.result e n p.outcome p.words p.states p.written
+    let sets = c.args.proposers.now.sets.items in
+    let found = c.put_refusal.result in
+    asks_nothing (g.F.Files.seen c.args.files.now) (g.K.Sink.seen c.args.sink.now) (g.K.Sink.seen c.put_refusal.new.sink) arguments found (λ becomes. AreSetsAsked (λ b. b.ptr) (λ b. (goal.InvariantProposer-dyn g (b.vtable, b.value)).last b.value) (λ b shape. (goal.InvariantProposer-dyn g (b.vtable, b.value)).to_come b.value shape) becomes sets sets found.outcome)
+    e n p.outcome p.words p.states p.written (rw p.outcome (sets_unasked (λ b. b.ptr) (λ b. (goal.InvariantProposer-dyn g (b.vtable, b.value)).last b.value) (λ b shape. (goal.InvariantProposer-dyn g (b.vtable, b.value)).to_come b.value shape) (λ q. ⊥) sets (Err stop.Usage) tt))

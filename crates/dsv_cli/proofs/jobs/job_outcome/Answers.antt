@@ -1,12 +1,12 @@
 use Rattle.std.proofs.Common.{◌≡◌, true, subst, sym, Some}
+use Rattle.std.specs.Prelude.{Err}
 use Rattle.dsv_command.specs.Table.{does, has_cell}
 use Rattle.dsv_command.specs.Views.{files_view, job_view, task_view}
-use Rattle.dsv_cli.specs.JobRows.{BecomeJobWords, FileBecomes, of_words}
-use Rattle.dsv_cli.specs.Proposers.{AsksSchurCohn, WantsSchurCohn}
+use Rattle.dsv_cli.specs.Proposers.{AreSetsAsked, AsksSchurCohn, WantsSchurCohn}
 use Rattle.dsv_cli.specs.Stages.{IsAlone, IsSaidBeside, texts_view}
 use Rattle.dsv_cli.proofs.SectionFiles.{kept_on}
 use Rattle.dsv_cli.proofs.Stages.{alone_kind, kind_of_texts, texts_beside, unread_beside}
-use Rattle.dsv_cli.proofs.Unasked.{own_for, sets_asked_for}
+use Rattle.dsv_cli.proofs.Unasked.{own_for, sets_unasked}
 use Rattle.dsv_cli.proofs.jobs.job_outcome.Goals as goal
 
 pub texts_outcome-requires : goal.texts_outcome-requires
@@ -15,9 +15,9 @@ texts_outcome-requires g c =
 
 pub returns-in-Ok-clause-row : goal.returns-in-Ok-clause-row
 returns-in-Ok-clause-row g c =
-    let job = job_view c.args.job.now in
     let said = c.said-said.result in
-    texts_beside (g.F.Files.seen c.args.files.now) (g.F.Files.seen c.read_texts.new.files) (g.F.Files.seen c.texts_outcome.new.files) job.files (texts_view c.in-Ok.texts) job.task job.design c.texts_outcome.result said.states said.words
+    texts_beside (g.F.Files.seen c.args.files.now) (g.F.Files.seen c.read_texts.new.files) (g.F.Files.seen c.texts_outcome.new.files) (job_view c.args.job.now) (texts_view c.in-Ok.texts) c.texts_outcome.result said.states said.words
+    (λ becomes. AreSetsAsked (λ b. b.ptr) (λ b. (goal.InvariantProposer-dyn g (b.vtable, b.value)).last b.value) (λ b shape. (goal.InvariantProposer-dyn g (b.vtable, b.value)).to_come b.value shape) becomes c.args.proposers.now.sets.items c.texts_outcome.new.proposers.sets.items c.texts_outcome.result)
     c.in-Ok.ensures.texts c.read_texts.ensures.kept c.in-Ok.ensures.came c.said-said.ensures.said c.texts_outcome.ensures.row
 
 pub returns-in-Ok-clause-kept : goal.returns-in-Ok-clause-kept
@@ -29,15 +29,11 @@ returns-in-Err-clause-row g c =
     let new = g.F.Files.seen c.read_texts.new.files in
     let job = job_view c.args.job.now in
     let found = c.unsaid.result in
-    subst (λ o. IsSaidBeside old new (Some (does job)) o found.states found.words) (sym c.unsaid.ensures.outcome)
-    (unread_beside old new job.files job.task job.design c.in-Err.stop found.states found.words c.in-Err.ensures.unread (c.unsaid.ensures.states, c.unsaid.ensures.words))
-
-pub returns-in-Ok-clause-sets : goal.returns-in-Ok-clause-sets
-returns-in-Ok-clause-sets g c =
-    let old = g.F.Files.seen c.args.files.now in
-    sets_asked_for (λ b. b.ptr) (λ b. (goal.InvariantProposer-dyn g (b.vtable, b.value)).last b.value) (λ b shape. (goal.InvariantProposer-dyn g (b.vtable, b.value)).to_come b.value shape)
-    (λ w. BecomeJobWords c.args.job.now.design (texts_view c.in-Ok.texts) (of_words w)) (FileBecomes old (Some (does (job_view c.args.job.now)))) c.args.proposers.now.sets.items c.texts_outcome.new.proposers.sets.items c.texts_outcome.result
-    (λ w becomes. (texts_view c.in-Ok.texts, c.in-Ok.ensures.texts, becomes)) c.texts_outcome.ensures.sets
+    let sets = c.args.proposers.now.sets.items in
+    let why = c.in-Err.stop in
+    subst (λ o. IsSaidBeside old new (Some (does job)) o found.states found.words (λ becomes. AreSetsAsked (λ b. b.ptr) (λ b. (goal.InvariantProposer-dyn g (b.vtable, b.value)).last b.value) (λ b shape. (goal.InvariantProposer-dyn g (b.vtable, b.value)).to_come b.value shape) becomes sets sets o)) (sym c.unsaid.ensures.outcome)
+    (unread_beside old new job why found.states found.words (λ becomes. AreSetsAsked (λ b. b.ptr) (λ b. (goal.InvariantProposer-dyn g (b.vtable, b.value)).last b.value) (λ b shape. (goal.InvariantProposer-dyn g (b.vtable, b.value)).to_come b.value shape) becomes sets sets (Err why)) c.in-Err.ensures.unread (c.unsaid.ensures.states, c.unsaid.ensures.words)
+    (sets_unasked (λ b. b.ptr) (λ b. (goal.InvariantProposer-dyn g (b.vtable, b.value)).last b.value) (λ b shape. (goal.InvariantProposer-dyn g (b.vtable, b.value)).to_come b.value shape) (λ q. ⊥) sets (Err why) tt))
 
 pub returns-in-Ok-clause-forms : goal.returns-in-Ok-clause-forms
 returns-in-Ok-clause-forms g c =

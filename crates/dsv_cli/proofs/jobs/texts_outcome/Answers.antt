@@ -2,12 +2,10 @@ use Rattle.std.proofs.Common.{◌≡◌, rules, true, subst, sym}
 use Rattle.std.specs.Prelude.{Err}
 use Rattle.dsv_command.specs.Table.{has_cell}
 use Rattle.dsv_command.specs.Views.{task_view}
-use Rattle.dsv_quantiser.specs.QuantisedView.{QuantisedView}
-use Rattle.dsv_cli.specs.JobRows.{BecomeJobWords, of_words}
 use Rattle.dsv_cli.specs.Proposers.{AsksSchurCohn}
 use Rattle.dsv_cli.specs.Stages.{IsAlone, evidence_view, kind_in, texts_view, words_in}
-use Rattle.dsv_cli.proofs.Stages.{lacks_evidence, lacks_words, task_done}
-use Rattle.dsv_cli.proofs.Unasked.{unasked, sets_unasked, sets_asked_for}
+use Rattle.dsv_cli.proofs.Stages.{lacks_evidence, lacks_words, row_with}
+use Rattle.dsv_cli.proofs.Unasked.{unasked, sets_unasked}
 use Rattle.dsv_cli.proofs.jobs.texts_outcome.Goals as goal
 
 -- ---- no evidence
@@ -15,14 +13,10 @@ pub returns-in_err-evidence-clause-row : goal.returns-in_err-evidence-clause-row
 returns-in_err-evidence-clause-row g c =
     let why = c.in_err-evidence.field-0.0 in
     let is : c.from_residual.result ≡ Err why = search rules in
-    rw is (lacks_evidence (g.F.Files.seen c.args.files.now) (g.F.Files.seen c.read_evidence.new.files) (texts_view c.args.texts.now) (task_view c.args.job.now.task) c.args.job.now.design why c.in_err-evidence.ensures.unread)
-
-pub returns-in_err-evidence-clause-sets : goal.returns-in_err-evidence-clause-sets
-returns-in_err-evidence-clause-sets g c =
-    let why = c.in_err-evidence.field-0.0 in
-    let is : c.from_residual.result ≡ Err why = search rules in
-    rw is (sets_unasked (λ b. b.ptr) (λ b. (goal.InvariantProposer-dyn g (b.vtable, b.value)).last b.value) (λ b shape. (goal.InvariantProposer-dyn g (b.vtable, b.value)).to_come b.value shape)
-    (λ w. BecomeJobWords c.args.job.now.design (texts_view c.args.texts.now) (of_words w)) c.args.proposers.now.sets.items (Err why) tt)
+    rw is (
+      lacks_evidence (g.F.Files.seen c.args.files.now) (g.F.Files.seen c.read_evidence.new.files) (texts_view c.args.texts.now) (task_view c.args.job.now.task) c.args.job.now.design why c.in_err-evidence.ensures.unread,
+      sets_unasked (λ b. b.ptr) (λ b. (goal.InvariantProposer-dyn g (b.vtable, b.value)).last b.value) (λ b shape. (goal.InvariantProposer-dyn g (b.vtable, b.value)).to_come b.value shape) (λ q. ⊥) c.args.proposers.now.sets.items (Err why) tt,
+    )
 
 pub returns-in_err-evidence-clause-forms : goal.returns-in_err-evidence-clause-forms
 returns-in_err-evidence-clause-forms g c =
@@ -36,15 +30,11 @@ pub returns-in_err-subject-clause-row : goal.returns-in_err-subject-clause-row
 returns-in_err-subject-clause-row g c =
     let why = c.in_err-subject.field-0.0 in
     let is : c.from_residual-in_err-subject.result ≡ Err why = search rules in
-    rw is (lacks_words (g.F.Files.seen c.args.files.now) (g.F.Files.seen c.read_evidence.new.files) (texts_view c.args.texts.now) (task_view c.args.job.now.task) c.args.job.now.design (evidence_view c.in_ok-evidence.evidence) why c.in_ok-evidence.ensures.has
-    c.in_err-subject.ensures.refused)
-
-pub returns-in_err-subject-clause-sets : goal.returns-in_err-subject-clause-sets
-returns-in_err-subject-clause-sets g c =
-    let why = c.in_err-subject.field-0.0 in
-    let is : c.from_residual-in_err-subject.result ≡ Err why = search rules in
-    rw is (sets_unasked (λ b. b.ptr) (λ b. (goal.InvariantProposer-dyn g (b.vtable, b.value)).last b.value) (λ b shape. (goal.InvariantProposer-dyn g (b.vtable, b.value)).to_come b.value shape)
-    (λ w. BecomeJobWords c.args.job.now.design (texts_view c.args.texts.now) (of_words w)) c.args.proposers.now.sets.items (Err why) tt)
+    rw is (
+      lacks_words (g.F.Files.seen c.args.files.now) (g.F.Files.seen c.read_evidence.new.files) (texts_view c.args.texts.now) (task_view c.args.job.now.task) c.args.job.now.design (evidence_view c.in_ok-evidence.evidence) why c.in_ok-evidence.ensures.has
+          c.in_err-subject.ensures.refused,
+      sets_unasked (λ b. b.ptr) (λ b. (goal.InvariantProposer-dyn g (b.vtable, b.value)).last b.value) (λ b shape. (goal.InvariantProposer-dyn g (b.vtable, b.value)).to_come b.value shape) (λ q. ⊥) c.args.proposers.now.sets.items (Err why) tt,
+    )
 
 pub returns-in_err-subject-clause-forms : goal.returns-in_err-subject-clause-forms
 returns-in_err-subject-clause-forms g c =
@@ -64,15 +54,8 @@ returns-clause-row g c =
     let subject = c.in_ok-subject.subject in
     let e = evidence_view c.in_ok-evidence.evidence in
     let t = texts_view c.args.texts.now in
-    task_done old new t (task_view c.args.job.now.task) c.args.job.now.design c.task_outcome.result
-    (e, c.in_ok-evidence.ensures.has, words_in subject, c.in_ok-subject.ensures.words, rw c.in_ok-subject.ensures.texts at c.task_outcome.ensures.task)
-
-pub returns-clause-sets : goal.returns-clause-sets
-returns-clause-sets g c =
-    let becomes : QuantisedView → Type 0 = λ w. BecomeJobWords c.args.job.now.design (texts_view c.args.texts.now) (of_words w) in
-    sets_asked_for (λ b. b.ptr) (λ b. (goal.InvariantProposer-dyn g (b.vtable, b.value)).last b.value) (λ b shape. (goal.InvariantProposer-dyn g (b.vtable, b.value)).to_come b.value shape)
-    (λ w. words_in c.in_ok-subject.subject ≡ of_words w) becomes c.args.proposers.now.sets.items c.task_outcome.new.proposers.sets.items c.task_outcome.result
-    (λ w e. subst (BecomeJobWords c.args.job.now.design (texts_view c.args.texts.now)) e c.in_ok-subject.ensures.words) c.task_outcome.ensures.sets
+    row_with (λ b. b.ptr) (λ b. (goal.InvariantProposer-dyn g (b.vtable, b.value)).last b.value) (λ b shape. (goal.InvariantProposer-dyn g (b.vtable, b.value)).to_come b.value shape) c.args.proposers.now.sets.items c.task_outcome.new.proposers.sets.items old new t (task_view c.args.job.now.task) c.args.job.now.design c.task_outcome.result
+    (e, c.in_ok-evidence.ensures.has, words_in subject, c.in_ok-subject.ensures.words, rw c.in_ok-subject.ensures.texts at c.task_outcome.ensures.task) c.task_outcome.ensures.sets
 
 pub returns-clause-forms : goal.returns-clause-forms
 returns-clause-forms g c = rw c.in_ok-subject.ensures.texts at c.task_outcome.ensures.forms
