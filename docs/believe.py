@@ -164,7 +164,7 @@ LONG = 30
 PAGE = (
     ("The call", "What `run` says of an answer, whatever the arguments, the files and the sink.",
      "IsDone dsv_command:request_of dsv_command/Table:Request IsAnswered Outcome IsJobRow IsDoneBy HaveTexts AreUnread HasEvidence BecomeJobWords AreWordless IsTaskDone "
-     "IsOfDecision IsUnread CameOf FilesSeen"),
+     "IsUnread CameOf FilesSeen"),
     ("The file", "What it means that a file's bytes are a controller, and what the controller is in words.",
      "longest_file IsControllerOf IsTextOf IsFaultOf ControllerView BecomesWords QuantisedView"),
     ("Overflow, limit cycles, simulation", "What the answers on runs say, of a subject: a controller, a cascade or a state-space "

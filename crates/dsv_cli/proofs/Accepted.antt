@@ -33,7 +33,7 @@ use Rattle.dsv_cli.specs.Accepted.{IsAcceptance, IsFormAcceptance, Accepts, Hold
 use Rattle.dsv_cli.specs.Checking.{IsCertificateOf}
 use Rattle.dsv_cli.specs.Exact.{IsLost}
 use Rattle.dsv_cli.specs.Headline.{longest_certificate, CameOf, IsSpelled}
-use Rattle.dsv_cli.specs.JobRows.{JobTexts, of_one, of_state_file, with_plant, HaveTexts, AreUnread, Evidence, certificate, ellipsoid, none, HasEvidence, JobWords, of_words, of_state_words, BecomeJobWords, AreWordless, IsOfKind, IsTaskDone, IsDoneBy, IsOfCheck, IsCheckOfRow, IsJobRow, IsAnswered, IsSaidOf}
+use Rattle.dsv_cli.specs.JobRows.{JobTexts, of_one, of_state_file, with_plant, HaveTexts, AreUnread, Evidence, certificate, ellipsoid, none, HasEvidence, JobWords, of_words, of_state_words, BecomeJobWords, AreWordless, IsTaskDone, IsDoneBy, IsOfCheck, IsCheckOfRow, IsJobRow, IsAnswered, IsSaidOf}
 use Rattle.dsv_cli.specs.States.{IsOfForm}
 use Rattle.dsv_cli.proofs.CertifiedWords.{IsAcceptable, PassesFor, PassesInLoop, PassesForStates, controller_fits, loop_fits, states_fit}
 use Rattle.dsv_cli.proofs.Exact.{one_controller, one_plant, one_states, controller_lost, plant_lost, states_lost, certificate_lost, one_written, words_lost, job_words_once}
@@ -115,9 +115,9 @@ form_done old new file name design t s c found there spelled held b p h =
     let evidence : h.evidence ≡ certificate (certificate_alone c) = named_form old name (certificate_alone c) h.evidence held spelled h.has_evidence in
     let become : BecomeJobWords design (of_state_file t) h.words = subst (λ x. BecomeJobWords design x h.words) texts h.become_words in
     let words : h.words ≡ of_state_words s = job_words_once design (of_state_file t) h.words (of_state_words s) become b in
-    let by_texts : IsOfKind (checks_form name) h.evidence (of_state_file t) h.words found = subst (λ x. IsOfKind (checks_form name) h.evidence x h.words found) texts h.done in
-    let by_evidence = subst (λ x. IsOfKind (checks_form name) x (of_state_file t) h.words found) evidence by_texts in
-    form_passes s c found p (subst (λ x. IsOfKind (checks_form name) (certificate (certificate_alone c)) (of_state_file t) x found) words by_evidence)
+    let by_texts : IsTaskDone (checks_form name) h.evidence (of_state_file t) h.words found = subst (λ x. IsTaskDone (checks_form name) h.evidence x h.words found) texts h.done in
+    let by_evidence = subst (λ x. IsTaskDone (checks_form name) x (of_state_file t) h.words found) evidence by_texts in
+    form_passes s c found p (subst (λ x. IsTaskDone (checks_form name) (certificate (certificate_alone c)) (of_state_file t) x found) words by_evidence)
 
 form_accepts : (old new : FilesSeen) (file name : List ℕ) (design : Design) (t : StateFileView) (s : StateView) (c : Certificate) (found : Outcome) → AreThere old new (table_states file) (of_state_file t)
     → IsCertificateOf old name (certificate_alone c) → HoldsTheSame old name old name → BecomeJobWords design (of_state_file t) (of_state_words s) → PassesForStates s (certificate_alone c)

@@ -4,7 +4,6 @@ use Rattle.std.specs.Prelude.{Result, ℤ}
 use Rattle.std.proofs.lemmas.Bool.{cases_order}
 use Rattle.dsv_word.specs.Words.{IsWord}
 use Rattle.dsv_names.specs.declared.property.RunProperty.{RunProperty}
-use Rattle.dsv_names.specs.declared.property.RootProperty.{RootProperty}
 use Rattle.dsv_names.specs.declared.property.RootProperty.TheVariants.{Stability}
 use Rattle.dsv_reader.specs.Controllers.{ControllerView}
 use Rattle.dsv_reader.specs.Plants.{PlantView}
@@ -47,7 +46,7 @@ use Rattle.dsv_cli.specs.Checking.{stop_of_check, IsOfCertificate, IsOfLoopCerti
 use Rattle.dsv_cli.specs.Ellipsoids.{IsOfOffer, IsOfSoughtEllipsoid}
 use Rattle.dsv_cli.specs.Exact.{IsLost}
 use Rattle.dsv_cli.specs.Gain.{IsOfGain}
-use Rattle.dsv_cli.specs.JobRows.{JobTexts, of_one, of_sections, of_state_file, with_plant, sections_with_plant, Evidence, certificate, ellipsoid, JobWords, of_words, of_series, of_state_words, subject_of, ErrorIs, IsOfSections, IsOfDecision, IsOfOne, IsOfStatesAlone, IsOfKind, IsTaskDone, IsOfCheck}
+use Rattle.dsv_cli.specs.JobRows.{JobTexts, of_one, of_sections, of_state_file, with_plant, sections_with_plant, Evidence, certificate, ellipsoid, JobWords, of_words, of_series, of_state_words, subject_of, ErrorIs, IsOfSections, IsTaskDone, IsOfCheck}
 use Rattle.dsv_cli.specs.Loops.{IsOfLoop}
 use Rattle.dsv_cli.specs.Searching.{IsOfFormula, IsOfSearch}
 use Rattle.dsv_cli.specs.Simulating.{IsOfRun}
@@ -165,14 +164,6 @@ table_lost : (s : StateView) (why : Stop) → IsOfStateTable s (Err why) → IsL
 table_lost s stop.NoMemory h = tt
 table_lost s why h = absurd h
 
-decided_exact : (p : RootProperty) (sc : Bool) (texts : JobTexts) (words : JobWords) → IsExact (IsOfDecision (decides p sc) texts words)
-decided_exact p sc (of_one c) (of_words q) why found h kept k = absurd (kept (decision_lost sc h.poly why h.decision))
-decided_exact Stability sc (of_sections c cs) (of_series s) why found h kept k = absurd (kept (sections_lost sc s why h))
-decided_exact Stability true (of_state_file c) (of_state_words s) why found h kept k = absurd (kept (table_lost s why h))
-decided_exact Stability sc (with_plant c p) (of_words q) why found h kept k = loop_exact (loop_of (q ∷ []) c.sample_time p) why found h.0 kept k.0
-decided_exact Stability sc (sections_with_plant c cs p) (of_series s) why found h kept k = loop_exact (loop_of (sections_of s) c.sample_time p) why found h kept k
-decided_exact p sc texts words why found h kept k = absurd h
-
 -- ---- forms of states
 checked_once : {A R : Type 0} → (came : Result A R) (r s : R) → came ≡ Err r → came ≡ Err s → r ≡ s
 checked_once came r s h k = cc
@@ -191,66 +182,44 @@ form_exact s c (stop.CertificateRefused line (fault.Check why)) found h kept k =
 form_exact s c why found h kept k = absurd h
 
 -- ---- all tasks
-one_exact : (task : Task) (e : Evidence) (c : ControllerView) (q : QuantisedView) → IsExact (IsOfOne task e c q)
-one_exact checks_time e c q why found h kept k = timing_exact c q why found h kept k
-one_exact (writes p n) e c q why found h kept k = formula_exact p n (of_controller q) why found h kept k
-one_exact (seeks_set conflicts) e c q why found h kept k = sets_exact conflicts q why found h kept k
-one_exact (checks_ellipsoid name) (ellipsoid offer) c q why found h kept k = offer_exact offer q why found h kept k
-one_exact seeks_ellipsoid e c q why found h kept k = sought_exact q why found h kept k
-one_exact task e c q why found h kept k = absurd h
-
-alone_exact : (task : Task) (e : Evidence) (s : StateView) → IsExact (IsOfStatesAlone task e s)
-alone_exact (checks_form name) (certificate c) s why found h kept k = form_exact s c why found h kept k
-alone_exact seeks_form e s why found h kept k = absurd h
-alone_exact task e s why found h kept k = absurd h
-
-kind_exact : (task : Task) (e : Evidence) (texts : JobTexts) (words : JobWords) → IsExact (IsOfKind task e texts words)
-kind_exact task e (of_one c) (of_words q) why found h kept k = one_exact task e c q why found h kept k
-kind_exact task e (of_state_file c) (of_state_words s) why found h kept k = alone_exact task e s why found h kept k
-kind_exact task e texts words why found h kept k = absurd h
-
 pub task_exact : (task : Task) (e : Evidence) (texts : JobTexts) (words : JobWords) → IsExact (IsTaskDone task e texts words)
 task_exact (searches p n conflicts) e texts words why found h kept k = search_exact p n conflicts (subject_of words) why found h kept k
 task_exact measures_gain e texts words why found h kept k = gain_exact (ErrorIs words) (subject_of words) why found h kept k
 task_exact (simulates inputs) e texts words why found h kept k = run_exact (subject_of words) inputs why found h kept k
-task_exact (decides p sc) e texts words why found h kept k = decided_exact p sc texts words why found h kept k
-task_exact task e texts words why found h kept k = kind_exact task e texts words why found h kept k
+task_exact (decides p sc) e (of_one c) (of_words q) why found h kept k = absurd (kept (decision_lost sc h.poly why h.decision))
+task_exact (decides Stability sc) e (of_sections c cs) (of_series s) why found h kept k = absurd (kept (sections_lost sc s why h))
+task_exact (decides Stability true) e (of_state_file c) (of_state_words s) why found h kept k = absurd (kept (table_lost s why h))
+task_exact (decides Stability sc) e (with_plant c p) (of_words q) why found h kept k = loop_exact (loop_of (q ∷ []) c.sample_time p) why found h.0 kept k.0
+task_exact (decides Stability sc) e (sections_with_plant c cs p) (of_series s) why found h kept k = loop_exact (loop_of (sections_of s) c.sample_time p) why found h kept k
+task_exact checks_time e (of_one c) (of_words q) why found h kept k = timing_exact c q why found h kept k
+task_exact (writes p n) e (of_one c) (of_words q) why found h kept k = formula_exact p n (of_controller q) why found h kept k
+task_exact (seeks_set conflicts) e (of_one c) (of_words q) why found h kept k = sets_exact conflicts q why found h kept k
+task_exact (checks_ellipsoid name) (ellipsoid offer) (of_one c) (of_words q) why found h kept k = offer_exact offer q why found h kept k
+task_exact seeks_ellipsoid e (of_one c) (of_words q) why found h kept k = sought_exact q why found h kept k
+task_exact (checks_form name) (certificate c) (of_state_file t) (of_state_words s) why found h kept k = form_exact s c why found h kept k
+task_exact seeks_form e (of_state_file c) (of_state_words s) why found h kept k = absurd h
+task_exact task e texts words why found h kept k = absurd h
 
 -- no task ends by a fault of a read
 no_loop_fault : (came : Result (List ℤ) LoopRefusal) (which : WhichFile) → IsOfLoop came (Err (stop.ReadFault which)) → ⊥
 no_loop_fault (Ok poly) which h = h
 no_loop_fault (Err why) which h = h
 
-no_decision_fault : (p : RootProperty) (sc : Bool) (texts : JobTexts) (words : JobWords) (which : WhichFile) → IsOfDecision (decides p sc) texts words (Err (stop.ReadFault which)) → ⊥
-no_decision_fault p sc (of_one c) (of_words q) which h = h.decision
-no_decision_fault Stability false (of_sections c cs) (of_series s) which h = h
-no_decision_fault Stability true (of_sections c cs) (of_series s) which h = h
-no_decision_fault Stability true (of_state_file c) (of_state_words s) which h = h
-no_decision_fault Stability sc (with_plant c p) (of_words q) which h = no_loop_fault (loop_of (q ∷ []) c.sample_time p) which h.0
-no_decision_fault Stability sc (sections_with_plant c cs p) (of_series s) which h = no_loop_fault (loop_of (sections_of s) c.sample_time p) which h
-no_decision_fault p sc texts words which h = absurd h
-
-no_one_fault : (task : Task) (e : Evidence) (c : ControllerView) (q : QuantisedView) (which : WhichFile) → IsOfOne task e c q (Err (stop.ReadFault which)) → ⊥
-no_one_fault (checks_ellipsoid name) (ellipsoid offer) c q which h = h
-no_one_fault (checks_ellipsoid name) e c q which h = absurd h
-no_one_fault task e c q which h = absurd h
-
-no_alone_fault : (task : Task) (e : Evidence) (s : StateView) (which : WhichFile) → IsOfStatesAlone task e s (Err (stop.ReadFault which)) → ⊥
-no_alone_fault (checks_form name) (certificate c) s which h = h
-no_alone_fault (checks_form name) e s which h = absurd h
-no_alone_fault task e s which h = absurd h
-
-no_kind_fault : (task : Task) (e : Evidence) (texts : JobTexts) (words : JobWords) (which : WhichFile) → IsOfKind task e texts words (Err (stop.ReadFault which)) → ⊥
-no_kind_fault task e (of_one c) (of_words q) which h = no_one_fault task e c q which h
-no_kind_fault task e (of_state_file c) (of_state_words s) which h = no_alone_fault task e s which h
-no_kind_fault task e texts words which h = absurd h
-
 pub no_task_fault : (task : Task) (e : Evidence) (texts : JobTexts) (words : JobWords) (which : WhichFile) → IsTaskDone task e texts words (Err (stop.ReadFault which)) → ⊥
 no_task_fault (searches p n conflicts) e texts words which h = h
 no_task_fault measures_gain e texts words which h = h
 no_task_fault (simulates inputs) e texts words which h = h
-no_task_fault (decides p sc) e texts words which h = no_decision_fault p sc texts words which h
-no_task_fault task e texts words which h = no_kind_fault task e texts words which h
+no_task_fault (decides p sc) e (of_one c) (of_words q) which h = h.decision
+no_task_fault (decides Stability false) e (of_sections c cs) (of_series s) which h = h
+no_task_fault (decides Stability true) e (of_sections c cs) (of_series s) which h = h
+no_task_fault (decides Stability true) e (of_state_file c) (of_state_words s) which h = h
+no_task_fault (decides Stability sc) e (with_plant c p) (of_words q) which h = no_loop_fault (loop_of (q ∷ []) c.sample_time p) which h.0
+no_task_fault (decides Stability sc) e (sections_with_plant c cs p) (of_series s) which h = no_loop_fault (loop_of (sections_of s) c.sample_time p) which h
+no_task_fault (checks_ellipsoid name) (ellipsoid offer) (of_one c) (of_words q) which h = h
+no_task_fault (checks_form name) (certificate c) (of_state_file t) (of_state_words s) which h = h
+no_task_fault task e (of_one c) (of_words q) which h = absurd h
+no_task_fault task e (of_state_file c) (of_state_words s) which h = absurd h
+no_task_fault task e texts words which h = absurd h
 
 -- ---- checks of certificates
 abbrev pub NoMemoryFound : Checked → Type 0

@@ -7,7 +7,7 @@ use Rattle.dsv_base.proofs.TakingLemmas.{Rose-earlier}
 use Rattle.dsv_token.specs.declared.refusal.FileRefusal.{FileRefusal}
 use Rattle.dsv_token.specs.declared.refusal.FileRefusal.TheVariants as text
 use Rattle.dsv_token.specs.Memory.{Refuses}
-use Rattle.dsv_reader.specs.Reading.{reading, plant_reading}
+use Rattle.dsv_reader.specs.Reading.{reading}
 use Rattle.dsv_reader.specs.Texts.{IsFaultOf}
 use Rattle.dsv_certfile.specs.Answers as certificates
 use Rattle.dsv_certfile.specs.Reading.{certificate_in}
@@ -21,7 +21,6 @@ use Rattle.dsv_report.specs.declared.stop.WhichFile.{WhichFile}
 use Rattle.dsv_report.specs.declared.stop.WhichFile.TheVariants as file
 use Rattle.dsv_cli.specs.Checking.{IsUnreadCertificate}
 use Rattle.dsv_cli.specs.FileBytes.{limit_of, too_long_of, IsOfController, IsUnreadFile}
-use Rattle.dsv_cli.specs.Loops.{IsPlantFault}
 use Rattle.dsv_cli.specs.Headline.{longest_file, longest_certificate, AreKept, CameOf, IsUnread}
 use Rattle.dsv_certfile.specs.Ellipsoids.{ellipsoid_in}
 use Rattle.dsv_certfile.specs.declared.fault.TextRefusal.{TextRefusal}
@@ -72,11 +71,6 @@ pub text_fits : (which : WhichFile) → IsOfController which → (bytes : List �
 text_fits file.Controller h bytes l = l
 text_fits (file.Section section) h bytes l = l
 text_fits which h bytes l = absurd h
-
-pub plant_faulty : (old new : FilesSeen) (name bytes : List ℕ) (r : FileRefusal) → IfSome (old.held name) (λ file. bytes ≡ file) → length bytes ≤ longest_file → Refuses r (plant_reading bytes)
-    → IsUnread file.Plant IsPlantFault old new name (stop_of_file file.Plant r)
-plant_faulty old new name bytes text.NoMemory e short h = tt
-plant_faulty old new name bytes r e short h = (refl, (bytes, e, (short, h)))
 
 pub plant_certificate : file.Plant ≡ file.Certificate → ⊥
 plant_certificate e = cc

@@ -57,7 +57,7 @@ use Rattle.dsv_bounded.proofs.Verdicts.{trace_breaks, cycle_cycles}
 use Rattle.dsv_cli.specs.Causes.{IsDecision, IsOfProperty, IsOfTiming, IsOfSets}
 use Rattle.dsv_cli.specs.Checking.{IsOfCertificate}
 use Rattle.dsv_cli.specs.Ellipsoids.{IsOfOffer, IsOfSoughtEllipsoid}
-use Rattle.dsv_cli.specs.JobRows.{JobTexts, of_one, of_sections, of_state_file, with_plant, sections_with_plant, Evidence, certificate, ellipsoid, JobWords, of_words, of_series, of_state_words, subject_of, ErrorIs, IsOfSections, IsOfDecision, IsOfOne, IsOfStatesAlone, IsOfKind, IsTaskDone, IsOfCheck}
+use Rattle.dsv_cli.specs.JobRows.{JobTexts, of_one, of_sections, of_state_file, with_plant, sections_with_plant, Evidence, certificate, ellipsoid, JobWords, of_words, of_series, of_state_words, subject_of, ErrorIs, IsOfSections, IsTaskDone, IsOfCheck}
 use Rattle.dsv_cli.specs.Checking.{IsOfLoopCertificate}
 use Rattle.dsv_cli.specs.Loops.{IsOfLoop}
 use Rattle.dsv_cli.specs.States.{IsOfForm}
@@ -348,14 +348,6 @@ loop_open : (came : Result (List ℤ) LoopRefusal) (a : Answer) → IsOfLoop cam
 loop_open (Ok poly) (answer.OfTable found) h x = x
 loop_open came a h x = absurd h
 
-one_decided : (p : RootProperty) (sc : Bool) (texts : JobTexts) (words : JobWords) → HasOne (IsOfDecision (decides p sc) texts words)
-one_decided p sc (of_one c) (of_words q) a b x y h k = one_property p sc q a b x y h k
-one_decided Stability sc (of_sections c cs) (of_series s) a b x y h k = absurd (sections_open sc s a h x)
-one_decided Stability true (of_state_file c) (of_state_words s) a b x y h k = absurd (states_open s a h x)
-one_decided Stability sc (with_plant c p) (of_words q) a b x y h k = absurd (loop_open (loop_of (q ∷ []) c.sample_time p) a h.0 x)
-one_decided Stability sc (sections_with_plant c cs p) (of_series s) a b x y h k = absurd (loop_open (loop_of (sections_of s) c.sample_time p) a h x)
-one_decided p sc texts words a b x y h k = absurd h
-
 -- ---- ellipsoids, sets and forms
 one_offer : (offer : Ellipsoid) (q : QuantisedView) → HasOne (IsOfOffer offer q)
 one_offer offer q (answer.InEllipsoid f) (answer.InEllipsoid g) x y h k = ap (λ it. Ok (answer.InEllipsoid it)) (h.0 ∙ sym k.0)
@@ -382,30 +374,23 @@ sought_form_open s answer.NoStateForm h x = x
 sought_form_open s a h x = absurd h
 
 -- ---- all tasks
-one_of_one : (task : Task) (e : Evidence) (c : ControllerView) (q : QuantisedView) → HasOne (IsOfOne task e c q)
-one_of_one checks_time e c q a b x y h k = one_time c q a b x y h k
-one_of_one (writes p n) e c q a b x y h k = one_formula p n (of_controller q) a b x y h k
-one_of_one (seeks_set conflicts) e c q a b x y h k = absurd (sets_open conflicts q a h x)
-one_of_one (checks_ellipsoid name) (ellipsoid offer) c q a b x y h k = one_offer offer q a b x y h k
-one_of_one seeks_ellipsoid e c q a b x y h k = absurd (sought_open q a h x)
-one_of_one task e c q a b x y h k = absurd h
-
-one_alone : (task : Task) (e : Evidence) (s : StateView) → HasOne (IsOfStatesAlone task e s)
-one_alone (checks_form name) (certificate c) s a b x y h k = absurd (form_open s c a h x)
-one_alone seeks_form e s a b x y h k = absurd (sought_form_open s a h x)
-one_alone task e s a b x y h k = absurd h
-
-one_kind : (task : Task) (e : Evidence) (texts : JobTexts) (words : JobWords) → HasOne (IsOfKind task e texts words)
-one_kind task e (of_one c) (of_words q) a b x y h k = one_of_one task e c q a b x y h k
-one_kind task e (of_state_file c) (of_state_words s) a b x y h k = one_alone task e s a b x y h k
-one_kind task e texts words a b x y h k = absurd h
-
 pub one_task : (task : Task) (e : Evidence) (texts : JobTexts) (words : JobWords) → HasOne (IsTaskDone task e texts words)
 one_task (searches p n conflicts) e texts words a b x y h k = one_search p n conflicts words a b x y h k
 one_task measures_gain e texts words a b x y h k = one_gain (ErrorIs words) (subject_of words) a b x y h k
 one_task (simulates inputs) e texts words a b x y h k = one_run (subject_of words) inputs a b x y h k
-one_task (decides p sc) e texts words a b x y h k = one_decided p sc texts words a b x y h k
-one_task task e texts words a b x y h k = one_kind task e texts words a b x y h k
+one_task (decides p sc) e (of_one c) (of_words q) a b x y h k = one_property p sc q a b x y h k
+one_task (decides Stability sc) e (of_sections c cs) (of_series s) a b x y h k = absurd (sections_open sc s a h x)
+one_task (decides Stability true) e (of_state_file c) (of_state_words s) a b x y h k = absurd (states_open s a h x)
+one_task (decides Stability sc) e (with_plant c p) (of_words q) a b x y h k = absurd (loop_open (loop_of (q ∷ []) c.sample_time p) a h.0 x)
+one_task (decides Stability sc) e (sections_with_plant c cs p) (of_series s) a b x y h k = absurd (loop_open (loop_of (sections_of s) c.sample_time p) a h x)
+one_task checks_time e (of_one c) (of_words q) a b x y h k = one_time c q a b x y h k
+one_task (writes p n) e (of_one c) (of_words q) a b x y h k = one_formula p n (of_controller q) a b x y h k
+one_task (seeks_set conflicts) e (of_one c) (of_words q) a b x y h k = absurd (sets_open conflicts q a h x)
+one_task (checks_ellipsoid name) (ellipsoid offer) (of_one c) (of_words q) a b x y h k = one_offer offer q a b x y h k
+one_task seeks_ellipsoid e (of_one c) (of_words q) a b x y h k = absurd (sought_open q a h x)
+one_task (checks_form name) (certificate c) (of_state_file t) (of_state_words s) a b x y h k = absurd (form_open s c a h x)
+one_task seeks_form e (of_state_file c) (of_state_words s) a b x y h k = absurd (sought_form_open s a h x)
+one_task task e texts words a b x y h k = absurd h
 
 -- ---- checks of certificates
 one_certificate : (c : ControllerView) (cert : Certificate) → HasOne (IsOfCertificate c cert)

@@ -1,22 +1,13 @@
 -- The stages of a job lead to its row.
-use Rattle.std.proofs.Common.{◌≡◌, ◌⊎◌, ◌≤◌, inl, inr, ℕ, List, [], ◌∷◌, subst, refl}
-use Rattle.std.specs.Prelude.{Bool, true, false, Ok, Err, Option, Some}
+use Rattle.std.proofs.Common.{◌≡◌, ◌⊎◌, ◌≤◌, inl, inr, ℕ, List, subst, refl}
+use Rattle.std.specs.Prelude.{Ok, Err, Option, Some}
 use Rattle.dsv_base.specs.Seen.{FilesSeen}
 use Rattle.dsv_names.specs.declared.design.Design.{Design}
-use Rattle.dsv_names.specs.declared.property.RootProperty.{RootProperty}
-use Rattle.dsv_names.specs.declared.property.RootProperty.TheVariants.{Stability}
-use Rattle.dsv_names.specs.declared.property.RootProperty.TheVariants as root
-use Rattle.dsv_reader.specs.Controllers.{ControllerView}
-use Rattle.dsv_reader.specs.Plants.{PlantView}
 use Rattle.dsv_quantiser.specs.QuantisedView.{QuantisedView}
-use Rattle.dsv_cascade.specs.Cascades.{CascadeView, sections_of}
-use Rattle.dsv_state_file.specs.StateFiles.{StateFileView}
-use Rattle.dsv_state_space.specs.StateView.{StateView}
-use Rattle.dsv_loop.specs.Loops.{loop_of}
 use Rattle.dsv_certfile.specs.declared.certificate.Certificate.{Certificate}
 use Rattle.dsv_certfile.specs.declared.ellipsoid.Ellipsoid.{Ellipsoid}
 use Rattle.dsv_certfile.specs.declared.job.CertWords.{CertWords}
-use Rattle.dsv_command.specs.Table.{Job, does, JobFiles, controller, cascade, states, plant_loop, cascade_loop, kind_of, Task, checks_form, checks_ellipsoid, decides, has_cell}
+use Rattle.dsv_command.specs.Table.{Job, does, JobFiles, controller, cascade, states, plant_loop, cascade_loop, kind_of, Task, checks_form, checks_ellipsoid}
 use Rattle.dsv_command.specs.declared.kind.Kind.TheVariants as of_kind
 use Rattle.dsv_template.specs.declared.candidate.Candidate.{Candidate}
 use Rattle.dsv_template.specs.declared.shape.Shape.{Shape}
@@ -26,9 +17,7 @@ use Rattle.dsv_report.specs.Stops.{Outcome}
 use Rattle.dsv_cli.specs.Checking.{IsCertificateOf, IsUnreadCertificate}
 use Rattle.dsv_cli.specs.Ellipsoids.{IsOffer, IsOfferOf}
 use Rattle.dsv_cli.specs.Headline.{AreKept, CameOf, IsSpelled}
-use Rattle.dsv_cli.specs.JobRows.{JobTexts, of_one, of_sections, of_state_file, with_plant, sections_with_plant, HaveTexts, AreUnread, Evidence, none, certificate, ellipsoid, HasEvidence, IsEvidenceUnread, AreWordless, IsTaskDone, IsDoneBy, IsOfCheck, IsCheckedBy, IsCheckOfRow, of_words, of_series, of_state_words, IsOfSections, IsOfDecision, IsNothing, IsSaidOf}
-use Rattle.dsv_cli.specs.Loops.{IsOfLoop, HasFewCoefficients}
-use Rattle.dsv_cli.specs.States.{IsOfStateTable}
+use Rattle.dsv_cli.specs.JobRows.{JobTexts, of_one, of_sections, of_state_file, with_plant, sections_with_plant, HaveTexts, AreUnread, Evidence, none, certificate, ellipsoid, HasEvidence, IsEvidenceUnread, AreWordless, IsDoneBy, IsOfCheck, IsCheckedBy, IsCheckOfRow, of_words, IsNothing, IsSaidOf}
 use Rattle.dsv_cli.specs.Proposers.{AreSetsAsked}
 use Rattle.dsv_cli.specs.Stages.{kind_in, IsAlone, IsDoneFor, IsRowFor, IsRowWith, IsSaidBeside}
 use Rattle.dsv_cli.proofs.FileBytes.{unread_earlier, offer_earlier}
@@ -141,26 +130,3 @@ row_of_check old then new files came name c found t k s h = checked old new file
     checked old new files name (Ok found) h = h
     checked old new files name (Err stop.NoMemory) h = tt
     checked old new files name (Err why) h = inr (inr h)
-
--- ---- cells of the table
--- loops and cascades are asked for stability alone
-pub sections_decided : (property : RootProperty) (flag : Bool) (c : ControllerView) (cs : List ControllerView) (s : CascadeView) (found : Outcome) → has_cell of_kind.Cascade (decides property flag) ≡ true → IsOfSections flag s found
-    → IsOfDecision (decides property flag) (of_sections c cs) (of_series s) found
-sections_decided Stability flag c cs s found h k = k
-sections_decided root.MinimumPhase flag c cs s found h k = absurd (cc)
-
-pub states_decided : (property : RootProperty) (flag : Bool) (c : StateFileView) (s : StateView) (found : Outcome) → has_cell of_kind.States (decides property flag) ≡ true → IsOfStateTable s found
-    → IsOfDecision (decides property flag) (of_state_file c) (of_state_words s) found
-states_decided Stability true c s found h k = k
-states_decided Stability false c s found h k = absurd (cc)
-states_decided root.MinimumPhase flag c s found h k = absurd (cc)
-
-pub loop_done : (task : Task) (e : Evidence) (c : ControllerView) (p : PlantView) (q : QuantisedView) (found : Outcome) → has_cell of_kind.Loop task ≡ true → IsOfLoop (loop_of (q ∷ []) c.sample_time p) found → HasFewCoefficients found
-    → IsTaskDone task e (with_plant c p) (of_words q) found
-loop_done (decides Stability flag) e c p q found h k few = (k, few)
-loop_done task e c p q found h k few = absurd (cc)
-
-pub cascade_loop_done : (task : Task) (e : Evidence) (c : ControllerView) (cs : List ControllerView) (p : PlantView) (s : CascadeView) (found : Outcome) → has_cell of_kind.CascadeLoop task ≡ true
-    → IsOfLoop (loop_of (sections_of s) c.sample_time p) found → IsTaskDone task e (sections_with_plant c cs p) (of_series s) found
-cascade_loop_done (decides Stability flag) e c cs p s found h k = k
-cascade_loop_done task e c cs p s found h k = absurd (cc)

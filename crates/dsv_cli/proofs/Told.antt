@@ -1,21 +1,12 @@
 -- What holds of the bytes that came of a file, told or not.
-use Rattle.std.proofs.Common.{ℕ, ◌+◌, ◌<◌, List, [], length, replicate, refl, subst, arith}
+use Rattle.std.proofs.Common.{ℕ, ◌+◌, ◌<◌, List, length, replicate, refl, arith}
 use Rattle.std.proofs.lemmas.List.{length-replicate}
 use Rattle.std.specs.Prelude.{Option, Some, None, IfSome}
 use Rattle.dsv_cli.specs.Headline.{CameOf}
 
--- where the bytes are told, it holds of these
-pub of_told : (P : List ℕ → Type 0) (bytes : List ℕ) → CameOf (Some bytes) P → P bytes
-of_told P bytes h = subst P h.1 h.2
-
 -- what follows of the bytes that came
 pub along : {P Q : List ℕ → Type 0} (told : Option (List ℕ)) → ((bytes : List ℕ) → P bytes → Q bytes) → CameOf told P → CameOf told Q
 along told f h = (h.0, h.1, f h.0 h.2)
-
--- some bytes came
-pub some_came : (told : Option (List ℕ)) → CameOf told (λ bytes. Unit {0})
-some_came None = ([], tt, tt)
-some_came (Some file) = (file, refl, tt)
 
 longer : (n : ℕ) → n < length {A = ℕ} (replicate (n + 1) 0)
 longer n = omega (arith, length-replicate {A = ℕ} (n + 1) 0)

@@ -17,7 +17,7 @@ use Rattle.dsv_cli.specs.Causes.{IsOfProperty}
 use Rattle.dsv_command.specs.Table.{Task, decides, checks_form, checks_ellipsoid, searches, measures_gain, simulates, Request, does, checks, generates}
 use Rattle.dsv_report.specs.declared.answers.Answer.TheVariants as answer
 use Rattle.dsv_report.specs.Stops.{Outcome}
-use Rattle.dsv_cli.specs.JobRows.{JobTexts, of_one, of_sections, of_state_file, with_plant, sections_with_plant, Evidence, certificate, ellipsoid, JobWords, of_words, of_series, of_state_words, IsOfSections, IsOfDecision, IsOfKind, IsTaskDone, IsOfCheck, IsAnswered}
+use Rattle.dsv_cli.specs.JobRows.{JobTexts, of_one, of_sections, of_state_file, with_plant, sections_with_plant, Evidence, certificate, ellipsoid, JobWords, of_words, of_series, of_state_words, IsOfSections, IsTaskDone, IsOfCheck, IsAnswered}
 use Rattle.dsv_cli.specs.Loops.{IsOfLoop}
 use Rattle.dsv_cli.specs.Proposers.{AsksSchurCohn, IfNoForm, WantsSchurCohn, is_low}
 use Rattle.dsv_cli.proofs.Unasked.{no_low}
@@ -41,27 +41,20 @@ sections_undecided : (flag : Bool) (s : CascadeView) (poly : List ℤ) (kept : L
 sections_undecided true s poly kept verdict h = h
 sections_undecided false s poly kept verdict h = h
 
-decision_undecided : (p : RootProperty) (flag : Bool) (t : JobTexts) (w : JobWords) (poly : List ℤ) (kept : List KeptForm) (verdict : Jury) → IsOfDecision (decides p flag) t w (Ok (answer.NoForm poly kept verdict)) → IsUndecided (decides p flag) poly
-decision_undecided p flag (of_one c) (of_words q) poly kept verdict h = property_undecided p flag q poly kept verdict h
-decision_undecided Stability flag (of_sections c cs) (of_series s) poly kept verdict h = absurd (sections_undecided flag s poly kept verdict h)
-decision_undecided Stability true (of_state_file c) (of_state_words s) poly kept verdict h = absurd h
-decision_undecided Stability flag (with_plant c p) (of_words q) poly kept verdict h = absurd (no_loop_form (loop_of (q ∷ []) c.sample_time p) poly kept verdict h.0)
-decision_undecided Stability flag (sections_with_plant c cs p) (of_series s) poly kept verdict h = absurd (no_loop_form (loop_of (sections_of s) c.sample_time p) poly kept verdict h)
-decision_undecided p flag t w poly kept verdict h = absurd h
-
-one_undecided : (task : Task) (e : Evidence) (t : JobTexts) (w : JobWords) (poly : List ℤ) (kept : List KeptForm) (verdict : Jury) → IsOfKind task e t w (Ok (answer.NoForm poly kept verdict)) → ⊥
-one_undecided (checks_ellipsoid name) (ellipsoid o) (of_one c) (of_words q) poly kept verdict h = h
-one_undecided (checks_form name) (certificate x) (of_state_file c) (of_state_words s) poly kept verdict h = h
-one_undecided task e (of_one c) (of_words q) poly kept verdict h = absurd h
-one_undecided task e (of_state_file c) (of_state_words s) poly kept verdict h = absurd h
-one_undecided task e t w poly kept verdict h = absurd h
-
 task_undecided : (task : Task) (e : Evidence) (t : JobTexts) (w : JobWords) (poly : List ℤ) (kept : List KeptForm) (verdict : Jury) → IsTaskDone task e t w (Ok (answer.NoForm poly kept verdict)) → IsUndecided task poly
 task_undecided (searches p n conflicts) e t w poly kept verdict h = absurd h
 task_undecided measures_gain e t w poly kept verdict h = absurd h
 task_undecided (simulates inputs) e t w poly kept verdict h = absurd h
-task_undecided (decides p flag) e t w poly kept verdict h = decision_undecided p flag t w poly kept verdict h
-task_undecided task e t w poly kept verdict h = absurd (one_undecided task e t w poly kept verdict h)
+task_undecided (decides p flag) e (of_one c) (of_words q) poly kept verdict h = property_undecided p flag q poly kept verdict h
+task_undecided (decides Stability flag) e (of_sections c cs) (of_series s) poly kept verdict h = absurd (sections_undecided flag s poly kept verdict h)
+task_undecided (decides Stability true) e (of_state_file c) (of_state_words s) poly kept verdict h = absurd h
+task_undecided (decides Stability flag) e (with_plant c p) (of_words q) poly kept verdict h = absurd (no_loop_form (loop_of (q ∷ []) c.sample_time p) poly kept verdict h.0)
+task_undecided (decides Stability flag) e (sections_with_plant c cs p) (of_series s) poly kept verdict h = absurd (no_loop_form (loop_of (sections_of s) c.sample_time p) poly kept verdict h)
+task_undecided (checks_ellipsoid name) (ellipsoid o) (of_one c) (of_words q) poly kept verdict h = absurd h
+task_undecided (checks_form name) (certificate x) (of_state_file c) (of_state_words s) poly kept verdict h = absurd h
+task_undecided task e (of_one c) (of_words q) poly kept verdict h = absurd h
+task_undecided task e (of_state_file c) (of_state_words s) poly kept verdict h = absurd h
+task_undecided task e t w poly kept verdict h = absurd h
 
 check_undecided : (t : JobTexts) (c : Certificate) (poly : List ℤ) (kept : List KeptForm) (verdict : Jury) → IsOfCheck t c (Ok (answer.NoForm poly kept verdict)) → ⊥
 check_undecided (of_one d) c poly kept verdict h = h

@@ -164,44 +164,7 @@ IsOfSections true s (Ok (answer.OfSectionTables found)) = AreTabled (sections_of
 IsOfSections schur_cohn s (Err stop.NoMemory) = Unit {0}
 IsOfSections schur_cohn s other = ⊥
 
--- what deciding a property of roots comes to: of a controller's polynomial, of each section's, of
--- the states', or of a loop's
-abbrev pub IsOfDecision : Task → JobTexts → JobWords → Outcome → Type 0
-IsOfDecision (decides property schur_cohn) (of_one c) (of_words q) found =
-    IsOfProperty property schur_cohn q found
-IsOfDecision (decides Stability schur_cohn) (of_sections c cs) (of_series s) found =
-    IsOfSections schur_cohn s found
-IsOfDecision (decides Stability true) (of_state_file c) (of_state_words s) found =
-    IsOfStateTable s found
-IsOfDecision (decides Stability schur_cohn) (with_plant c p) (of_words q) found =
-    IsOfLoop (loop_of (q ∷ []) c.sample_time p) found × HasFewCoefficients found
-IsOfDecision (decides Stability schur_cohn) (sections_with_plant c cs p) (of_series s) found =
-    IsOfLoop (loop_of (sections_of s) c.sample_time p) found
-IsOfDecision task texts words found = ⊥
-
--- what a task comes to that a controller alone has
-abbrev pub IsOfOne : Task → Evidence → ControllerView → QuantisedView → Outcome → Type 0
-IsOfOne checks_time evidence c q found = IsOfTiming c q found
-IsOfOne (writes property samples) evidence c q found =
-    IsOfFormula property samples (of_controller q) found
-IsOfOne (seeks_set conflicts) evidence c q found = IsOfSets conflicts q found
-IsOfOne (checks_ellipsoid name) (ellipsoid offer) c q found = IsOfOffer offer q found
-IsOfOne seeks_ellipsoid evidence c q found = IsOfSoughtEllipsoid q found
-IsOfOne task evidence c q found = ⊥
-
--- or a state-space controller alone
-abbrev pub IsOfStatesAlone : Task → Evidence → StateView → Outcome → Type 0
-IsOfStatesAlone (checks_form name) (certificate c) s found = IsOfForm s c found
-IsOfStatesAlone seeks_form evidence s found = IsOfSoughtForm s found
-IsOfStatesAlone task evidence s found = ⊥
-
-abbrev pub IsOfKind : Task → Evidence → JobTexts → JobWords → Outcome → Type 0
-IsOfKind task evidence (of_one c) (of_words q) found = IsOfOne task evidence c q found
-IsOfKind task evidence (of_state_file c) (of_state_words s) found =
-    IsOfStatesAlone task evidence s found
-IsOfKind task evidence texts words found = ⊥
-
--- what a task comes to
+-- what a task comes to, by what it is asked about; nothing else is asked
 abbrev pub IsTaskDone : Task → Evidence → JobTexts → JobWords → Outcome → Type 0
 IsTaskDone (searches property samples conflicts) evidence texts words found =
     IsOfSearch property samples conflicts (subject_of words) found
@@ -209,9 +172,27 @@ IsTaskDone measures_gain evidence texts words found =
     IsOfGain (ErrorIs words) (subject_of words) found
 IsTaskDone (simulates inputs) evidence texts words found =
     IsOfRun (subject_of words) inputs found
-IsTaskDone (decides property schur_cohn) evidence texts words found =
-    IsOfDecision (decides property schur_cohn) texts words found
-IsTaskDone task evidence texts words found = IsOfKind task evidence texts words found
+IsTaskDone (decides property schur_cohn) evidence (of_one c) (of_words q) found =
+    IsOfProperty property schur_cohn q found
+IsTaskDone (decides Stability schur_cohn) evidence (of_sections c cs) (of_series s) found =
+    IsOfSections schur_cohn s found
+IsTaskDone (decides Stability true) evidence (of_state_file c) (of_state_words s) found =
+    IsOfStateTable s found
+IsTaskDone (decides Stability schur_cohn) evidence (with_plant c p) (of_words q) found =
+    IsOfLoop (loop_of (q ∷ []) c.sample_time p) found × HasFewCoefficients found
+IsTaskDone (decides Stability schur_cohn) evidence (sections_with_plant c cs p) (of_series s) found
+    = IsOfLoop (loop_of (sections_of s) c.sample_time p) found
+IsTaskDone checks_time evidence (of_one c) (of_words q) found = IsOfTiming c q found
+IsTaskDone (writes property samples) evidence (of_one c) (of_words q) found =
+    IsOfFormula property samples (of_controller q) found
+IsTaskDone (seeks_set conflicts) evidence (of_one c) (of_words q) found = IsOfSets conflicts q found
+IsTaskDone (checks_ellipsoid name) (ellipsoid offer) (of_one c) (of_words q) found =
+    IsOfOffer offer q found
+IsTaskDone seeks_ellipsoid evidence (of_one c) (of_words q) found = IsOfSoughtEllipsoid q found
+IsTaskDone (checks_form name) (certificate form) (of_state_file c) (of_state_words s) found =
+    IsOfForm s form found
+IsTaskDone seeks_form evidence (of_state_file c) (of_state_words s) found = IsOfSoughtForm s found
+IsTaskDone task evidence texts words found = ⊥
 
 -- ---- the row
 -- The files have these texts, the task's evidence is this, and they become these words, for which
