@@ -184,12 +184,12 @@ PAGE = (
     ("Loops with their plants", "What the answers on the loop of a controller with its plant say, and what the check of its certificate.",
      "IsPlantFileOf IsPlantOf IsPlantText PlantView IsPlantFault IsOfLoop dsv_loop:loop_of dsv_table:IsFinding "
      "dsv_table:verdict_of IsShown HasFallingForm HasKeptAwayForm AreBounds IsRootSize HasFallAtRate HasKeptAwayAtRate "
-     "IsOfLoopCertificate IsLoopChecked IsLoopShownOf LoopHas HasFallingLoop "),
+     "IsLoopChecked IsLoopShownOf LoopHas HasFallingLoop "),
     ("Stability, minimum phase, timing", "What the answers on polynomials and on time say.",
      "tested_of ShowsFall StrictlyFallsAlong StrictlyFalls ShowsKeptAway IsKeptAwayAlong IsKeptAway "
      "ShowsNoForm closed_form_of jury_of IsJuryShown ShowsTable WantsSchurCohn IsTimingOf IsOnTime"),
     ("Certificates, generated controllers", "What a check says, and what a tally says.",
-     "longest_certificate IsCheckOfRow IsCheckedBy IsOfCheck IsChecked IsShownOf IsNearOf ShowsError IsRefusedAt IsOfGeneration "
+     "longest_certificate IsCheckOfRow IsCheckedBy IsOfCheck IsChecked IsShownOf IsNearOf ShowsError stop_of_check IsOfGeneration "
      "IsGeneratedFrom"),
     ("What is written, and what stays", "The output, the status, and the files afterwards.",
      "IsWritten dsv_report:output_of answer_text stop_text IfWhole IsTyped AreKept"),

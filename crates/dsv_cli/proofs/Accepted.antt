@@ -15,7 +15,6 @@ use Rattle.dsv_certfile.specs.declared.certificate.Certificate.{Certificate}
 use Rattle.dsv_certfile.specs.declared.job.CertWords.{CertWords}
 use Rattle.dsv_certfile.specs.declared.job.CertifiedJob.{CertifiedJob}
 use Rattle.dsv_certfile.proofs.WrittenCertificates.{written_is_read}
-use Rattle.dsv_certcheck.specs.Checks.{format_check}
 use Rattle.dsv_certcheck.specs.StateChecks.{state_check}
 use Rattle.dsv_certcheck.specs.declared.check_refusal.CheckRefusal.TheVariants as refusal
 use Rattle.dsv_command.specs.Table.{JobFiles, controller, cascade, plant_loop, cascade_loop, Task, checks_form, kind_of, may_certify}
@@ -37,7 +36,7 @@ use Rattle.dsv_cli.specs.JobRows.{JobTexts, of_one, of_state_file, with_plant, H
 use Rattle.dsv_cli.specs.States.{IsOfForm}
 use Rattle.dsv_cli.proofs.CertifiedWords.{IsAcceptable, PassesFor, PassesInLoop, PassesForStates, controller_fits, loop_fits, states_fit}
 use Rattle.dsv_cli.proofs.Exact.{one_controller, one_plant, one_states, controller_lost, plant_lost, states_lost, certificate_lost, one_written, words_lost, job_words_once}
-use Rattle.dsv_cli.proofs.ExactTasks.{passed_lost, certificate_stop_of, ok_lost, loop_found_once, checked_or_not}
+use Rattle.dsv_cli.proofs.ExactTasks.{ok_lost, checked_once_for, loop_once_for, checked_or_not}
 
 -- ---- the certificate's file
 came_of : (P : List ℕ → Type 0) (told : Option (List ℕ)) (bytes : List ℕ) → told ≡ Some bytes → P bytes → CameOf told P
@@ -69,10 +68,10 @@ Passes texts c = ⊥
 
 passed_accepts : (t : JobTexts) (c : Certificate) (found : Outcome) → Passes t c → IsOfCheck t c found → IsAcceptance (job_of c) found
 passed_accepts (of_one d) c (Ok (answer.Checked certified error)) p h = h.0
-passed_accepts (of_one d) c (Err why) p h = lost_accepts (job_of c) (Err why) (passed_lost d c why (certificate_stop_of d c why h) p)
+passed_accepts (of_one d) c (Err why) p (r, h, e) = lost_accepts (job_of c) (Err why) (ok_lost r why e (checked_once_for d c (Err r) (Ok tt) h p))
 passed_accepts (of_one d) c found p h = absurd h
 passed_accepts (with_plant d plant) c (Ok (answer.Checked certified error)) p h = h.0
-passed_accepts (with_plant d plant) c (Err why) p (r, h, e) = lost_accepts (job_of c) (Err why) (ok_lost r why e (loop_found_once (format_check d (job_of c).words) d plant c (Err r) (Ok tt) h p))
+passed_accepts (with_plant d plant) c (Err why) p (r, h, e) = lost_accepts (job_of c) (Err why) (ok_lost r why e (loop_once_for d plant c (Err r) (Ok tt) h p))
 passed_accepts (with_plant d plant) c found p h = absurd h
 passed_accepts t c found p h = absurd p
 

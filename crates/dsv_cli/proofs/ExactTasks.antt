@@ -25,11 +25,9 @@ use Rattle.dsv_certfile.specs.Texts.{job_of}
 use Rattle.dsv_certfile.specs.declared.certificate.Certificate.{Certificate}
 use Rattle.dsv_certfile.specs.declared.ellipsoid.Ellipsoid.{Ellipsoid}
 use Rattle.dsv_certfile.specs.declared.fault.CheckFault.{CheckFault}
-use Rattle.dsv_certfile.specs.declared.fault.CheckFault.TheVariants as claim
 use Rattle.dsv_certcheck.specs.Checks.{Checked, words_check, BecomesFor, IsFoundFor, IsFoundAfter, IsChecked, format_check}
 use Rattle.dsv_certcheck.specs.StateChecks.{state_check}
-use Rattle.dsv_certcheck.specs.LineNumbers.{job_line_number}
-use Rattle.dsv_certcheck.specs.LoopChecks.{words_loop_check, IsLoopFoundFor, IsLoopFoundAfter}
+use Rattle.dsv_certcheck.specs.LoopChecks.{words_loop_check, IsLoopFoundFor, IsLoopFoundAfter, IsLoopChecked}
 use Rattle.dsv_certcheck.specs.declared.check_refusal.CheckRefusal.{CheckRefusal}
 use Rattle.dsv_certcheck.specs.declared.check_refusal.CheckRefusal.TheVariants as refusal
 use Rattle.dsv_command.specs.Table.{Task, decides, checks_time, writes, searches, seeks_set, measures_gain, simulates, checks_form, seeks_form, checks_ellipsoid, seeks_ellipsoid}
@@ -39,10 +37,9 @@ use Rattle.dsv_report.specs.declared.stop.CertificateFault.TheVariants as fault
 use Rattle.dsv_report.specs.declared.stop.Stop.{Stop}
 use Rattle.dsv_report.specs.declared.stop.Stop.TheVariants as stop
 use Rattle.dsv_report.specs.declared.stop.WhichFile.{WhichFile}
-use Rattle.dsv_report.specs.declared.stop.WhichFile.TheVariants as file
 use Rattle.dsv_report.specs.Stops.{Outcome}
 use Rattle.dsv_cli.specs.Causes.{IsDecision, IsOfSets, IsOfTiming}
-use Rattle.dsv_cli.specs.Checking.{stop_of_check, IsOfCertificate, IsOfLoopCertificate, IsRefusedAt}
+use Rattle.dsv_cli.specs.Checking.{stop_of_check}
 use Rattle.dsv_cli.specs.Ellipsoids.{IsOfOffer, IsOfSoughtEllipsoid}
 use Rattle.dsv_cli.specs.Exact.{IsLost}
 use Rattle.dsv_cli.specs.Gain.{IsOfGain}
@@ -268,7 +265,7 @@ found_once : (came : Checked) (c : ControllerView) (cert : Certificate) (x y : C
 found_once (Ok z) c cert x y h k = words_one (BecomesFor c (job_of cert)) (λ q. words_check q cert) x y (become_once c cert) (words_found c cert x h) (words_found c cert y k)
 found_once (Err why) c cert x y h k = inl (h ∙ sym k)
 
-pub loop_found_once : (came : Checked) (c : ControllerView) (plant : PlantView) (cert : Certificate) (x y : Checked) → IsLoopFoundAfter came c plant cert x → IsLoopFoundAfter came c plant cert y → AreOneFinding x y
+loop_found_once : (came : Checked) (c : ControllerView) (plant : PlantView) (cert : Certificate) (x y : Checked) → IsLoopFoundAfter came c plant cert x → IsLoopFoundAfter came c plant cert y → AreOneFinding x y
 loop_found_once (Ok z) c plant cert x y h k =
     words_one (BecomesFor c (job_of cert)) (λ q. words_loop_check q c.sample_time plant cert) x y (become_once c cert) (loop_words_found c plant cert x h) (loop_words_found c plant cert y k)
 loop_found_once (Err why) c plant cert x y h k = inl (h ∙ sym k)
@@ -277,11 +274,6 @@ loop_found_once (Err why) c plant cert x y h k = inl (h ∙ sym k)
 lost_by : (r : CheckRefusal) (v : Stop) → NoMemoryFound (Err r) → v ≡ stop_of_check r → IsLost (Err v)
 lost_by refusal.NoMemory v h e = rw e tt
 lost_by r v h e = absurd h
-
-pub record Stops (IsIt : Checked → Type 0) (v : Stop) : Type 0 where
-  pub refusal_of : CheckRefusal
-  pub found : IsIt (Err refusal_of)
-  pub stops : v ≡ stop_of_check refusal_of
 
 refusal_once : (r s : CheckRefusal) (came : Checked) → came ≡ Err r → came ≡ Err s → r ≡ s
 refusal_once r s came h k = cc
@@ -307,46 +299,20 @@ this_or_lost v w kept (inl e) = inl (ap stopped_by (sym e))
 this_or_lost v w kept (inr (inl h)) = absurd (kept h)
 this_or_lost v w kept (inr (inr h)) = inr h
 
-line_stop : (line : ℕ) (f : CheckFault) → line ≡ job_line_number → f ≡ claim.Shape → stop.CertificateRefused line (fault.Check f) ≡ stop.CertificateRefused job_line_number (fault.Check claim.Shape)
-line_stop line f e g = ap (λ n. stop.CertificateRefused n (fault.Check f)) e ∙ ap (λ x. stop.CertificateRefused job_line_number (fault.Check x)) g
+-- what is checked is one finding
+pub checked_once_for : (c : ControllerView) (cert : Certificate) (x y : Checked) → IsChecked c cert x → IsChecked c cert y → AreOneFinding x y
+checked_once_for c cert x y h k = found_once (format_check c (job_of cert).words) c cert x y h k
 
-refused_stop : (c : ControllerView) (cert : Certificate) (line : ℕ) (f : CheckFault) → IsRefusedAt line f c cert → Stops (IsChecked c cert) (stop.CertificateRefused line (fault.Check f))
-refused_stop c cert line f (inl h) = record { refusal_of = refusal.Line line f; found = h; stops = refl }
-refused_stop c cert line f (inr (e, g, inl (index, h))) = record { refusal_of = refusal.Wide index; found = h; stops = line_stop line f e g }
-refused_stop c cert line f (inr (e, g, inr h)) = record { refusal_of = refusal.NoZeros; found = h; stops = line_stop line f e g }
-
-pub certificate_stop_of : (c : ControllerView) (cert : Certificate) (why : Stop) → IsOfCertificate c cert (Err why) → Stops (IsChecked c cert) why ⊎ IsLost (Err why)
-certificate_stop_of c cert (stop.CertificateRefused line (fault.Check f)) h = inl (refused_stop c cert line f h)
-certificate_stop_of c cert (stop.QuantRefused file.Controller r) h = inl (record { refusal_of = refusal.Quant r; found = h; stops = refl })
-certificate_stop_of c cert (stop.JobSize m) h = inl (record { refusal_of = refusal.JobSize m; found = h; stops = refl })
-certificate_stop_of c cert stop.NoMemory h = inr tt
-certificate_stop_of c cert why h = absurd h
-
-one_stop : (c : ControllerView) (cert : Certificate) (v w : Stop) → Stops (IsChecked c cert) v ⊎ IsLost (Err v) → Stops (IsChecked c cert) w ⊎ IsLost (Err w) → AreOneStop v w
-one_stop c cert v w (inr h) k = inr (inl h)
-one_stop c cert v w (inl h) (inr k) = inr (inr k)
-one_stop c cert v w (inl h) (inl k) =
-    stops_by h.refusal_of k.refusal_of v w h.stops k.stops (found_once (format_check c (job_of cert).words) c cert (Err h.refusal_of) (Err k.refusal_of) h.found k.found)
-
-pub passed_lost : (c : ControllerView) (cert : Certificate) (v : Stop) → Stops (IsChecked c cert) v ⊎ IsLost (Err v) → IsChecked c cert (Ok tt) → IsLost (Err v)
-passed_lost c cert v (inr h) k = h
-passed_lost c cert v (inl h) k = ok_lost h.refusal_of v h.stops (found_once (format_check c (job_of cert).words) c cert (Err h.refusal_of) (Ok tt) h.found k)
-
-certificate_exact : (c : ControllerView) (cert : Certificate) → IsExact (IsOfCertificate c cert)
-certificate_exact c cert why (Ok (answer.Checked certified error)) h kept k = absurd (kept (passed_lost c cert why (certificate_stop_of c cert why h) k.2))
-certificate_exact c cert why (Err w) h kept k = this_or_lost why w kept (one_stop c cert why w (certificate_stop_of c cert why h) (certificate_stop_of c cert w k))
-certificate_exact c cert why found h kept k = absurd k
-
-loop_certificate_exact : (c : ControllerView) (p : PlantView) (cert : Certificate) → IsExact (IsOfLoopCertificate c p cert)
-loop_certificate_exact c p cert why (Ok (answer.Checked certified error)) (r, h, e) kept k =
-    absurd (kept (ok_lost r why e (loop_found_once (format_check c (job_of cert).words) c p cert (Err r) (Ok tt) h k.2)))
-loop_certificate_exact c p cert why (Err w) (r, h, e) kept (s, k, f) =
-    this_or_lost why w kept (stops_by r s why w e f (loop_found_once (format_check c (job_of cert).words) c p cert (Err r) (Err s) h k))
-loop_certificate_exact c p cert why found h kept k = absurd k
+pub loop_once_for : (c : ControllerView) (plant : PlantView) (cert : Certificate) (x y : Checked) → IsLoopChecked c plant cert x → IsLoopChecked c plant cert y → AreOneFinding x y
+loop_once_for c plant cert x y h k = loop_found_once (format_check c (job_of cert).words) c plant cert x y h k
 
 pub check_exact : (texts : JobTexts) (cert : Certificate) → IsExact (IsOfCheck texts cert)
-check_exact (of_one c) cert why found h kept k = certificate_exact c cert why found h kept k
-check_exact (with_plant c p) cert why found h kept k = loop_certificate_exact c p cert why found h kept k
+check_exact (of_one c) cert why (Ok (answer.Checked certified error)) (r, h, e) kept k = absurd (kept (ok_lost r why e (checked_once_for c cert (Err r) (Ok tt) h k.1)))
+check_exact (of_one c) cert why (Err w) (r, h, e) kept (s, k, f) = this_or_lost why w kept (stops_by r s why w e f (checked_once_for c cert (Err r) (Err s) h k))
+check_exact (with_plant c p) cert why (Ok (answer.Checked certified error)) (r, h, e) kept k = absurd (kept (ok_lost r why e (loop_once_for c p cert (Err r) (Ok tt) h k.1)))
+check_exact (with_plant c p) cert why (Err w) (r, h, e) kept (s, k, f) = this_or_lost why w kept (stops_by r s why w e f (loop_once_for c p cert (Err r) (Err s) h k))
+check_exact (of_one c) cert why found h kept k = absurd k
+check_exact (with_plant c p) cert why found h kept k = absurd k
 check_exact texts cert why found h kept k = absurd h
 
 -- nor does a check
@@ -360,6 +326,6 @@ no_stop_fault (refusal.JobSize size) which e = cc
 no_stop_fault refusal.NoMemory which e = cc
 
 pub no_check_fault : (texts : JobTexts) (cert : Certificate) (which : WhichFile) → IsOfCheck texts cert (Err (stop.ReadFault which)) → ⊥
-no_check_fault (of_one c) cert which h = h
+no_check_fault (of_one c) cert which h = no_stop_fault h.0 which h.2
 no_check_fault (with_plant c p) cert which h = no_stop_fault h.0 which h.2
 no_check_fault texts cert which h = absurd h

@@ -6,7 +6,6 @@ pub mod BuiltIn
 pub mod CascadeRows
 pub mod Causes
 pub mod CertifiedWords
-pub mod Checks
 pub mod Completeness
 pub mod Decisions
 pub mod Exact

@@ -23,7 +23,6 @@ use Rattle.dsv_tested.specs.declared.side.Tested.{Tested}
 use Rattle.dsv_tested.specs.declared.side.Tested.TheVariants as tested
 use Rattle.dsv_names.specs.declared.property.RootProperty.{RootProperty}
 use Rattle.dsv_names.specs.declared.property.RootProperty.TheVariants.{Stability}
-use Rattle.dsv_reader.specs.Plants.{PlantView}
 use Rattle.dsv_realise.specs.SubjectView.{SubjectView}
 use Rattle.dsv_cascade.specs.Cascades.{CascadeView, sections_of, cascade_of}
 use Rattle.dsv_state_space.specs.Equations.{state_space_of}
@@ -55,10 +54,8 @@ use Rattle.dsv_cli.specs.Gain.{most_gain_samples, IsOfGain}
 use Rattle.dsv_bounded.specs.RunQuestions.{Happens, IsCycle}
 use Rattle.dsv_bounded.proofs.Verdicts.{trace_breaks, cycle_cycles}
 use Rattle.dsv_cli.specs.Causes.{IsDecision, IsOfProperty, IsOfTiming, IsOfSets}
-use Rattle.dsv_cli.specs.Checking.{IsOfCertificate}
 use Rattle.dsv_cli.specs.Ellipsoids.{IsOfOffer, IsOfSoughtEllipsoid}
 use Rattle.dsv_cli.specs.JobRows.{JobTexts, of_one, of_sections, of_state_file, with_plant, sections_with_plant, Evidence, certificate, ellipsoid, JobWords, of_words, of_series, of_state_words, subject_of, ErrorIs, IsOfSections, IsTaskDone, IsOfCheck}
-use Rattle.dsv_cli.specs.Checking.{IsOfLoopCertificate}
 use Rattle.dsv_cli.specs.Loops.{IsOfLoop}
 use Rattle.dsv_cli.specs.States.{IsOfForm}
 use Rattle.dsv_cli.specs.States.{IsOfSoughtForm, IsOfStateTable}
@@ -393,17 +390,9 @@ one_task seeks_form e (of_state_file c) (of_state_words s) a b x y h k = absurd 
 one_task task e texts words a b x y h k = absurd h
 
 -- ---- checks of certificates
-one_certificate : (c : ControllerView) (cert : Certificate) → HasOne (IsOfCertificate c cert)
-one_certificate c cert (answer.Checked f e) (answer.Checked g d) x y h k = h.0 ∙ sym k.0
-one_certificate c cert (answer.Checked f e) b x y h k = absurd k
-one_certificate c cert a b x y h k = absurd h
-
-one_loop_certificate : (c : ControllerView) (p : PlantView) (cert : Certificate) → HasOne (IsOfLoopCertificate c p cert)
-one_loop_certificate c p cert (answer.Checked f e) (answer.Checked g d) x y h k = h.0 ∙ sym k.0
-one_loop_certificate c p cert (answer.Checked f e) b x y h k = absurd k
-one_loop_certificate c p cert a b x y h k = absurd h
-
 pub one_check : (texts : JobTexts) (cert : Certificate) → HasOne (IsOfCheck texts cert)
-one_check (of_one c) cert a b x y h k = one_certificate c cert a b x y h k
-one_check (with_plant c p) cert a b x y h k = one_loop_certificate c p cert a b x y h k
+one_check (of_one c) cert (answer.Checked f e) (answer.Checked g d) x y h k = h.0 ∙ sym k.0
+one_check (with_plant c p) cert (answer.Checked f e) (answer.Checked g d) x y h k = h.0 ∙ sym k.0
+one_check (of_one c) cert (answer.Checked f e) b x y h k = absurd k
+one_check (with_plant c p) cert (answer.Checked f e) b x y h k = absurd k
 one_check texts cert a b x y h k = absurd h

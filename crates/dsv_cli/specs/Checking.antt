@@ -1,27 +1,18 @@
--- What the checks of certificates come to, and what keeps a file from being a certificate's.
-use Rattle.std.specs.Prelude.{◌≡◌, ◌⊎◌, ℕ, ◌+◌, ◌<◌, ◌≤◌, List, length, Some, None, Ok, Err}
+-- Why a check of a certificate gives no answer, and what keeps a file from being a certificate's.
+use Rattle.std.specs.Prelude.{◌≡◌, ℕ, ◌+◌, ◌<◌, ◌≤◌, List, length, Some, Err}
 use Rattle.dsv_base.specs.Counts.{Rose}
 use Rattle.dsv_base.specs.Seen.{FilesSeen}
-use Rattle.dsv_reader.specs.Controllers.{ControllerView}
-use Rattle.dsv_reader.specs.Plants.{PlantView}
 use Rattle.dsv_certfile.specs.Reading.{certificate_in}
-use Rattle.dsv_certfile.specs.Texts.{job_of}
 use Rattle.dsv_certfile.specs.declared.certificate.Certificate.{Certificate}
 use Rattle.dsv_certfile.specs.declared.fault.CertRefusal.TheVariants as unread
-use Rattle.dsv_certfile.specs.declared.fault.CheckFault.{CheckFault}
 use Rattle.dsv_certfile.specs.declared.fault.CheckFault.TheVariants as claim
-use Rattle.dsv_certcheck.specs.Checks.{IsChecked}
-use Rattle.dsv_certcheck.specs.LoopChecks.{IsLoopChecked, IsLoopShownOf}
 use Rattle.dsv_certcheck.specs.LineNumbers.{job_line_number}
-use Rattle.dsv_certcheck.specs.Shown.{IsShownOf, IsNearOf}
 use Rattle.dsv_certcheck.specs.declared.check_refusal.CheckRefusal.{CheckRefusal}
 use Rattle.dsv_certcheck.specs.declared.check_refusal.CheckRefusal.TheVariants as refusal
-use Rattle.dsv_report.specs.declared.answers.Answer.TheVariants as answer
 use Rattle.dsv_report.specs.declared.stop.CertificateFault.TheVariants as fault
 use Rattle.dsv_report.specs.declared.stop.Stop.{Stop}
 use Rattle.dsv_report.specs.declared.stop.Stop.TheVariants as stop
 use Rattle.dsv_report.specs.declared.stop.WhichFile.TheVariants as file
-use Rattle.dsv_report.specs.Stops.{Outcome}
 use Rattle.dsv_cli.specs.Headline.{longest_certificate, CameOf, IsSpelled}
 
 -- why there is no answer where the check of a certificate refuses it: that there is no polynomial
@@ -35,37 +26,6 @@ stop_of_check (refusal.Loop why) = stop.LoopRefused why
 stop_of_check (refusal.Quant r) = stop.QuantRefused file.Controller r
 stop_of_check (refusal.JobSize size) = stop.JobSize size
 stop_of_check refusal.NoMemory = stop.NoMemory
-
--- the claim on a line of the certificate isn't so; that there is no polynomial to claim anything of
--- counts as a fault of the job's line
-abbrev pub IsRefusedAt : ℕ → CheckFault → ControllerView → Certificate → Type 0
-IsRefusedAt line why controller c = IsChecked controller c (Err (refusal.Line line why))
-    ⊎ ((line ≡ job_line_number) × (why ≡ claim.Shape)
-    × (((index : ℕ) × IsChecked controller c (Err (refusal.Wide index)))
-    ⊎ IsChecked controller c (Err refusal.NoZeros)))
-
--- what the check of a certificate against a controller comes to
-abbrev pub IsOfCertificate : ControllerView → Certificate → Outcome → Type 0
-IsOfCertificate controller c (Ok (answer.Checked certified error)) =
-    (certified ≡ job_of c) × IsShownOf controller certified × IsChecked controller c (Ok tt)
-    × IsNearOf controller c error
-IsOfCertificate controller c (Err (stop.CertificateRefused line (fault.Check why))) =
-    IsRefusedAt line why controller c
-IsOfCertificate controller c (Err (stop.QuantRefused file.Controller r)) =
-    IsChecked controller c (Err (refusal.Quant r))
-IsOfCertificate controller c (Err (stop.JobSize size)) =
-    IsChecked controller c (Err (refusal.JobSize size))
-IsOfCertificate controller c (Err stop.NoMemory) = Unit {0}
-IsOfCertificate controller c other = ⊥
-
--- and against a controller and a plant
-abbrev pub IsOfLoopCertificate : ControllerView → PlantView → Certificate → Outcome → Type 0
-IsOfLoopCertificate c p certificate (Ok (answer.Checked certified error)) =
-    (certified ≡ job_of certificate) × IsLoopShownOf c p certified
-    × IsLoopChecked c p certificate (Ok tt) × (error ≡ None)
-IsOfLoopCertificate c p certificate (Ok other) = ⊥
-IsOfLoopCertificate c p certificate (Err why) = (r : CheckRefusal)
-    × IsLoopChecked c p certificate (Err r) × (why ≡ stop_of_check r)
 
 -- ---- the file
 -- the file of this name spells this certificate

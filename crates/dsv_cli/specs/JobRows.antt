@@ -24,6 +24,11 @@ use Rattle.dsv_state_space.specs.StateView.{StateView}
 use Rattle.dsv_state_space.specs.Subjects.{of_states}
 use Rattle.dsv_loop.specs.Loops.{loop_of}
 use Rattle.dsv_certfile.specs.Words.{words_for}
+use Rattle.dsv_certcheck.specs.Checks.{IsChecked}
+use Rattle.dsv_certcheck.specs.LoopChecks.{IsLoopChecked, IsLoopShownOf}
+use Rattle.dsv_certcheck.specs.Shown.{IsShownOf, IsNearOf}
+use Rattle.dsv_certcheck.specs.declared.check_refusal.CheckRefusal.{CheckRefusal}
+use Rattle.dsv_certfile.specs.Texts.{job_of}
 use Rattle.dsv_certfile.specs.declared.certificate.Certificate.{Certificate}
 use Rattle.dsv_certfile.specs.declared.ellipsoid.Ellipsoid.{Ellipsoid}
 use Rattle.dsv_certfile.specs.declared.job.CertWords.{CertWords}
@@ -42,8 +47,7 @@ use Rattle.dsv_report.specs.Stops.{Outcome}
 use Rattle.dsv_cli.specs.Cascades.{IsFileOf, AreControllers, BecomeWords, IsNoCascade}
 use Rattle.dsv_cli.specs.Cascades.{IsLaterUnread}
 use Rattle.dsv_cli.specs.Causes.{IsOfProperty, IsOfSets, IsOfTiming}
-use Rattle.dsv_cli.specs.Checking.{IsCertificateOf, IsUnreadCertificate, IsOfCertificate}
-use Rattle.dsv_cli.specs.Checking.{IsOfLoopCertificate}
+use Rattle.dsv_cli.specs.Checking.{IsCertificateOf, IsUnreadCertificate, stop_of_check}
 use Rattle.dsv_cli.specs.Ellipsoids.{IsOfferOf, IsUnreadOffer, IsOfOffer, IsOfSoughtEllipsoid}
 use Rattle.dsv_cli.specs.Gain.{IsErrorOf, IsNotSought, IsOfGain}
 use Rattle.dsv_cli.specs.Headline.{IsUnread, IsOfGeneration}
@@ -229,8 +233,16 @@ IsJobRow old new files task design (Err why) = AreUnread old new files why
 -- ---- checks of certificates
 -- what the check of a certificate comes to, of a controller or of its loop
 abbrev pub IsOfCheck : JobTexts → Certificate → Outcome → Type 0
-IsOfCheck (of_one c) written found = IsOfCertificate c written found
-IsOfCheck (with_plant c p) written found = IsOfLoopCertificate c p written found
+IsOfCheck (of_one c) written (Ok (answer.Checked certified error)) =
+    (certified ≡ job_of written) × IsChecked c written (Ok tt) × IsShownOf c certified
+    × IsNearOf c written error
+IsOfCheck (with_plant c p) written (Ok (answer.Checked certified error)) =
+    (certified ≡ job_of written) × IsLoopChecked c p written (Ok tt)
+    × IsLoopShownOf c p certified × (error ≡ None)
+IsOfCheck (of_one c) written (Err why) =
+    (r : CheckRefusal) × IsChecked c written (Err r) × (why ≡ stop_of_check r)
+IsOfCheck (with_plant c p) written (Err why) =
+    (r : CheckRefusal) × IsLoopChecked c p written (Err r) × (why ≡ stop_of_check r)
 IsOfCheck texts written found = ⊥
 
 -- The files have these texts, the certificate's file spells this, and its check comes to this.

@@ -3,9 +3,9 @@ ghost use Rattle.std.specs.Prelude.{◌≡◌, true};
 ghost use Rattle.dsv_command.specs.Table.{is_checked, kind_of};
 ghost use Rattle.dsv_command.specs.Views.{files_view};
 ghost use Rattle.dsv_cli.specs.Causes.{IsPlain};
-ghost use Rattle.dsv_cli.specs.Checking.{IsOfCertificate, IsOfLoopCertificate, stop_of_check};
+ghost use Rattle.dsv_cli.specs.Checking.{stop_of_check};
 ghost use Rattle.dsv_cli.specs.Headline.{AreKept};
-ghost use Rattle.dsv_cli.specs.JobRows.{IsCheckOfRow, IsOfCheck};
+ghost use Rattle.dsv_cli.specs.JobRows.{IsCheckOfRow, IsOfCheck, of_one, with_plant};
 ghost use Rattle.dsv_cli.specs.Stages.{kind_in, texts_view};
 
 use crate::evidence::read_certificate;
@@ -50,7 +50,7 @@ fn certificate_answer(
     controller: &Controller,
     certificate: &Certificate,
 ) -> Result<Answer, Stop>
-    ensures found { IsOfCertificate controller.now certificate.now result }
+    ensures found { IsOfCheck (of_one controller.now) certificate.now result }
     ensures plain { IsPlain result }
 {
     match check(alloc, controller, certificate) {
@@ -69,7 +69,7 @@ fn loop_certificate_answer(
     plant: &Plant,
     certificate: &Certificate,
 ) -> Result<Answer, Stop>
-    ensures found { IsOfLoopCertificate controller.now plant.now certificate.now result }
+    ensures found { IsOfCheck (with_plant controller.now plant.now) certificate.now result }
     ensures plain { IsPlain result }
 {
     match check_loop(alloc, controller, plant, certificate) {
