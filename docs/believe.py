@@ -187,17 +187,16 @@ PAGE = (
      "IsLoopChecked IsLoopShownOf LoopHas HasFallingLoop "),
     ("Stability, minimum phase, timing", "What the answers on polynomials and on time say.",
      "tested_of ShowsFall StrictlyFallsAlong StrictlyFalls ShowsKeptAway IsKeptAwayAlong IsKeptAway "
-     "ShowsNoForm closed_form_of jury_of IsJuryShown ShowsTable WantsSchurCohn IsTimingOf IsOnTime"),
+     "ShowsNoForm closed_form_of jury_of IsJuryShown ShowsTable IsTimingOf IsOnTime"),
     ("Certificates, generated controllers", "What a check says, and what a tally says.",
      "longest_certificate IsCheckOfRow IsCheckedBy IsOfCheck IsChecked IsShownOf IsNearOf ShowsError stop_of_check IsOfGeneration "
      "IsGeneratedFrom"),
     ("What is written, and what stays", "The output, the status, and the files afterwards.",
      "IsWritten dsv_report:output_of answer_text stop_text IfWhole IsTyped AreKept"),
     ("Proposers", "What becomes of the lists of objects that offer forms and sets.",
-     "IsAsked AreSetsAsked WantsForm WantsSet IfNoForm is_low"),
+     "IsAsked AreSetsAsked Wants Decides AsksSchurCohn Seeks IfNoForm is_low"),
     ("Four laws over the table", "What holds of all answers together.",
-     "RefusalsComeExactly IsToldTheSame IsLost HaveOneAnswer IsSettled SameAnswer AreDecided IsRefusedByNone IsVerdict WrittenAreAccepted check_of HoldTheSame Accepts "
-     "IsAcceptance IsFormAcceptance"),
+     "RefusalsComeExactly IsToldTheSame IsLost HaveOneAnswer IsSettled SameAnswer AreDecided IsRefusedByNone IsVerdict WrittenAreAccepted check_of HoldTheSame Accepts"),
 )
 # Laws of other crates that say what a definition of the page means.
 LAWS_BESIDE = {

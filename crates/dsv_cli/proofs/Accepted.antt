@@ -15,7 +15,7 @@ use Rattle.dsv_certfile.specs.declared.certificate.Certificate.{Certificate}
 use Rattle.dsv_certfile.specs.declared.job.CertWords.{CertWords}
 use Rattle.dsv_certfile.specs.declared.job.CertifiedJob.{CertifiedJob}
 use Rattle.dsv_certfile.proofs.WrittenCertificates.{written_is_read}
-use Rattle.dsv_certcheck.specs.StateChecks.{state_check}
+use Rattle.dsv_certcheck.specs.StateChecks.{Offers, state_check}
 use Rattle.dsv_certcheck.specs.declared.check_refusal.CheckRefusal.TheVariants as refusal
 use Rattle.dsv_command.specs.Table.{JobFiles, controller, cascade, plant_loop, cascade_loop, Task, checks_form, kind_of, may_certify}
 use Rattle.dsv_command.specs.Table.{states as table_states}
@@ -28,10 +28,9 @@ use Rattle.dsv_report.specs.declared.stop.Stop.{Stop}
 use Rattle.dsv_report.specs.declared.stop.Stop.TheVariants as stop
 use Rattle.dsv_report.specs.declared.stop.WhichFile.TheVariants as file
 use Rattle.dsv_report.specs.Stops.{Outcome}
-use Rattle.dsv_cli.specs.Accepted.{IsAcceptance, IsFormAcceptance, Accepts, HoldsTheSame, HoldTheSame, WrittenAreAccepted, check_of}
+use Rattle.dsv_cli.specs.Accepted.{Accepts, HoldsTheSame, HoldTheSame, WrittenAreAccepted, check_of}
 use Rattle.dsv_cli.specs.Checking.{IsCertificateOf}
-use Rattle.dsv_cli.specs.Exact.{IsLost}
-use Rattle.dsv_cli.specs.Headline.{longest_certificate, CameOf, IsSpelled}
+use Rattle.dsv_cli.specs.Headline.{longest_certificate, CameOf, IsSpelled, IsLost}
 use Rattle.dsv_cli.specs.JobRows.{JobTexts, of_one, of_state_file, with_plant, HaveTexts, AreUnread, Evidence, certificate, ellipsoid, none, HasEvidence, JobWords, of_words, of_state_words, BecomeJobWords, AreWordless, IsTaskDone, IsDoneBy, IsOfCheck, IsCheckOfRow, IsJobRow, IsAnswered, IsSaidOf}
 use Rattle.dsv_cli.specs.States.{IsOfForm}
 use Rattle.dsv_cli.proofs.CertifiedWords.{IsAcceptable, PassesFor, PassesInLoop, PassesForStates, controller_fits, loop_fits, states_fit}
@@ -49,16 +48,35 @@ spelled_alone Passes old name c a held short =
     let spelled : certificate_in (certificate_text c) ≡ Ok (certificate_alone c) = ap certificate_in (sym a.text) ∙ written_is_read (certificate_alone c) a.lawful in
     came_of (λ bytes. IsSpelled bytes (certificate_alone c)) (old.held name) (certificate_text c) held (record { short = short; spelled = spelled })
 
+-- ---- what accepts a certificate
+abbrev IsAcceptance : CertifiedJob → Outcome → Type 0
+IsAcceptance job (Ok (answer.Checked found error)) = found ≡ job
+IsAcceptance job found = IsLost found
+
+abbrev IsFormAcceptance : Certificate → Outcome → Type 0
+IsFormAcceptance c (Ok (answer.StateFalls many offer fall)) = Offers (certificate_alone c) offer
+IsFormAcceptance c found = IsLost found
+
+accepts_alone : (file : List ℕ) (c : Certificate) (found : Outcome) → IsAcceptance (job_of c) found → Accepts (controller file) c found
+accepts_alone file c (Ok (answer.Checked certified error)) h = h
+accepts_alone file c found h = h
+
+accepts_in_loop : (file plant : List ℕ) (c : Certificate) (found : Outcome) → IsAcceptance (job_of c) found → Accepts (plant_loop file plant) c found
+accepts_in_loop file plant c (Ok (answer.Checked certified error)) h = h
+accepts_in_loop file plant c found h = h
+
+accepts_form : (file : List ℕ) (c : Certificate) (found : Outcome) → IsFormAcceptance c found → Accepts (table_states file) c found
+accepts_form file c (Ok (answer.StateFalls many offer fall)) h = h
+accepts_form file c found h = h
+
 -- ---- checks
 lost_accepts : (job : CertifiedJob) (found : Outcome) → IsLost found → IsAcceptance job found
-lost_accepts job (Err (stop.ReadFault file)) h = tt
-lost_accepts job (Err stop.NoMemory) h = tt
-lost_accepts job found h = absurd h
+lost_accepts job (Ok found) h = absurd h
+lost_accepts job (Err why) h = h
 
 lost_form : (c : Certificate) (found : Outcome) → IsLost found → IsFormAcceptance c found
-lost_form c (Err (stop.ReadFault file)) h = tt
-lost_form c (Err stop.NoMemory) h = tt
-lost_form c found h = absurd h
+lost_form c (Ok found) h = absurd h
+lost_form c (Err why) h = h
 
 -- the certificate passes its check for these texts
 abbrev Passes : JobTexts → Certificate → Type 0
@@ -214,9 +232,9 @@ module _ (old then_old then_new : FilesSeen) (task : Task) (design : Design) (ma
 
   kind_accepts : (files others : JobFiles) (t : JobTexts) (w : JobWords) (e : Evidence) → IsGiven old then_old then_new files others task design words found c name answered → HaveTexts old files t → BecomeJobWords design t w
       → IsTaskDone task e t w (Ok found) → IsSaidOf t many words → Accepts others c answered
-  kind_accepts (controller file) (controller other) t w e g has b done said = controller_accepts file other t w e g has b done said
-  kind_accepts (plant_loop file plant) (plant_loop other others) t w e g has b done said = loop_accepts file plant other others t w e g has b done said
-  kind_accepts (table_states file) (table_states other) t w e g has b done said = states_accepts file other t w e g has b done
+  kind_accepts (controller file) (controller other) t w e g has b done said = accepts_alone other c answered (controller_accepts file other t w e g has b done said)
+  kind_accepts (plant_loop file plant) (plant_loop other others) t w e g has b done said = accepts_in_loop other others c answered (loop_accepts file plant other others t w e g has b done said)
+  kind_accepts (table_states file) (table_states other) t w e g has b done said = accepts_form other c answered (states_accepts file other t w e g has b done)
   kind_accepts (cascade file later) others t w e g has b done said = absurd (let m = g.certifiable in cc)
   kind_accepts (cascade_loop file later plant) others t w e g has b done said = absurd (let m = g.certifiable in cc)
   kind_accepts files others t w e g has b done said = absurd g.same

@@ -46,8 +46,8 @@ use Rattle.dsv_cli.specs.Accepted.{HoldsTheSame, AreTheSame, HoldTheSame}
 use Rattle.dsv_cli.specs.Cascades.{IsFileOf, AreControllers, IsLaterUnread, BecomeWords, IsNoCascade}
 use Rattle.dsv_cli.specs.Checking.{IsUnreadCertificate}
 use Rattle.dsv_cli.specs.Ellipsoids.{IsOffer, IsOfferOf, IsUnreadOffer}
-use Rattle.dsv_cli.specs.Exact.{NamesTheSame, IsToldTheSame, IsLost, RefusalsComeExactly}
-use Rattle.dsv_cli.specs.Headline.{longest_file, longest_certificate, CameOf, IsControllerOf, IsSpelled, IsUnread, IsOfGeneration}
+use Rattle.dsv_cli.specs.Exact.{NamesTheSame, IsToldTheSame, RefusalsComeExactly}
+use Rattle.dsv_cli.specs.Headline.{IsLost, longest_file, longest_certificate, CameOf, IsControllerOf, IsSpelled, IsUnread, IsOfGeneration}
 use Rattle.dsv_cli.specs.JobRows.{JobTexts, of_one, of_sections, of_state_file, with_plant, sections_with_plant, HaveTexts, AreUnread, Evidence, none, certificate, ellipsoid, HasEvidence, IsEvidenceUnread, JobWords, of_words, of_series, of_state_words, BecomeJobWords, IsWordless, AreWordless, LacksEvidence, LacksWords, IsTaskDone, IsDoneBy, IsOfCheck, IsCheckedBy, IsAnswered}
 use Rattle.dsv_cli.specs.Checking.{IsCertificateOf}
 use Rattle.dsv_cli.specs.Loops.{IsPlantOf, IsPlantFileOf, IsPlantFault}

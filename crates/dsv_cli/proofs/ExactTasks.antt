@@ -41,7 +41,7 @@ use Rattle.dsv_report.specs.Stops.{Outcome}
 use Rattle.dsv_cli.specs.Causes.{IsDecision, IsOfSets, IsOfTiming}
 use Rattle.dsv_cli.specs.Checking.{stop_of_check}
 use Rattle.dsv_cli.specs.Ellipsoids.{IsOfOffer, IsOfSoughtEllipsoid}
-use Rattle.dsv_cli.specs.Exact.{IsLost}
+use Rattle.dsv_cli.specs.Headline.{IsLost}
 use Rattle.dsv_cli.specs.Gain.{IsOfGain}
 use Rattle.dsv_cli.specs.JobRows.{JobTexts, of_one, of_sections, of_state_file, with_plant, sections_with_plant, Evidence, certificate, ellipsoid, JobWords, of_words, of_series, of_state_words, subject_of, ErrorIs, IsOfSections, IsTaskDone, IsOfCheck}
 use Rattle.dsv_cli.specs.Loops.{IsOfLoop}

@@ -19,7 +19,7 @@ use Rattle.dsv_report.specs.declared.answers.Answer.TheVariants as answer
 use Rattle.dsv_report.specs.Stops.{Outcome}
 use Rattle.dsv_cli.specs.JobRows.{JobTexts, of_one, of_sections, of_state_file, with_plant, sections_with_plant, Evidence, certificate, ellipsoid, JobWords, of_words, of_series, of_state_words, IsOfSections, IsTaskDone, IsOfCheck, IsAnswered}
 use Rattle.dsv_cli.specs.Loops.{IsOfLoop}
-use Rattle.dsv_cli.specs.Proposers.{AsksSchurCohn, IfNoForm, WantsSchurCohn, is_low}
+use Rattle.dsv_cli.specs.Proposers.{AsksSchurCohn, IfNoForm, Wants, is_low}
 use Rattle.dsv_cli.proofs.Unasked.{no_low}
 
 -- what is known where no form was found
@@ -72,7 +72,7 @@ low_is_decided old new None (Ok (answer.NoForm poly kept verdict)) h = absurd (n
     no_answer (inr e) = let f = e.0 in cc
 low_is_decided old new request found h = tt
 
-pub table_decides : (old new : FilesSeen) (request : Option Request) (found : Outcome) → IsAnswered old new request found → WantsSchurCohn request → IfNoForm found (λ poly kept. ⊥)
+pub table_decides : (old new : FilesSeen) (request : Option Request) (found : Outcome) → IsAnswered old new request found → Wants AsksSchurCohn request → IfNoForm found (λ poly kept. ⊥)
 table_decides old new (Some (does job)) (Ok (answer.NoForm poly kept verdict)) h asks = (task_undecided job.task h.evidence h.texts h.words poly kept verdict h.done).1 asks.1
 table_decides old new (Some (checks files name)) (Ok (answer.NoForm poly kept verdict)) h asks = absurd asks
 table_decides old new (Some (generates seed count)) (Ok (answer.NoForm poly kept verdict)) h asks = absurd asks

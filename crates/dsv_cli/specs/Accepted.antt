@@ -1,5 +1,5 @@
 -- A certificate that a run wrote is accepted for the same files.
-use Rattle.std.specs.Prelude.{◌≡◌, ℕ, ◌≤◌, false, List, length, Some, Ok, Err}
+use Rattle.std.specs.Prelude.{◌≡◌, ℕ, ◌≤◌, false, List, length, Some, Ok}
 use Rattle.dsv_base.specs.Seen.{FilesSeen}
 use Rattle.dsv_names.specs.declared.design.Design.{Design}
 use Rattle.dsv_certfile.specs.Lawful.{certificate_alone}
@@ -7,7 +7,6 @@ use Rattle.dsv_certfile.specs.Texts.{job_of, certificate_text}
 use Rattle.dsv_certfile.specs.Typed.{IsTyped}
 use Rattle.dsv_certfile.specs.declared.certificate.Certificate.{Certificate}
 use Rattle.dsv_certfile.specs.declared.job.CertWords.{CertWords}
-use Rattle.dsv_certfile.specs.declared.job.CertifiedJob.{CertifiedJob}
 use Rattle.dsv_certcheck.specs.StateChecks.{Offers}
 use Rattle.dsv_command.specs.Requests.{IsInTable, IsCertifiable}
 use Rattle.dsv_command.specs.Table.{JobFiles, controller, cascade, states, plant_loop}
@@ -16,27 +15,10 @@ use Rattle.dsv_report.specs.Headings.{asked_by}
 use Rattle.dsv_report.specs.Output.{certificate_written}
 use Rattle.dsv_report.specs.declared.answers.Answer.{Answer}
 use Rattle.dsv_report.specs.declared.answers.Answer.TheVariants as answer
-use Rattle.dsv_report.specs.declared.stop.Stop.TheVariants as stop
 use Rattle.dsv_report.specs.Stops.{Outcome}
 use Rattle.dsv_cli.specs.Cascades.{Pairwise}
-use Rattle.dsv_cli.specs.Headline.{longest_certificate}
+use Rattle.dsv_cli.specs.Headline.{longest_certificate, IsLost}
 use Rattle.dsv_cli.specs.JobRows.{IsAnswered, IsSaid}
-
--- the answer is that a certificate with this job is accepted, unless a read failed or there was no
--- memory
-abbrev pub IsAcceptance : CertifiedJob → Outcome → Type 0
-IsAcceptance certified (Ok (answer.Checked found error)) = found ≡ certified
-IsAcceptance certified (Err (stop.ReadFault file)) = Unit {0}
-IsAcceptance certified (Err stop.NoMemory) = Unit {0}
-IsAcceptance certified other = ⊥
-
--- the answer is that the certificate's form falls, with the numbers of its places alone, unless a
--- read failed or there was no memory
-abbrev pub IsFormAcceptance : Certificate → Outcome → Type 0
-IsFormAcceptance c (Ok (answer.StateFalls many offer fall)) = Offers (certificate_alone c) offer
-IsFormAcceptance c (Err (stop.ReadFault file)) = Unit {0}
-IsFormAcceptance c (Err stop.NoMemory) = Unit {0}
-IsFormAcceptance c other = ⊥
 
 -- the request that checks the certificate in the file of this name for what is in these files; a
 -- state-space controller's is a job in this design that takes it as a form
@@ -49,10 +31,15 @@ check_of design (states file) name = does (record {
 })
 check_of design files name = checks files name
 
--- this answer to it accepts the certificate
+-- this answer to it is that the certificate is accepted, with its job, or for a state-space
+-- controller with the numbers of its form's places alone; unless a read failed or there was no
+-- memory
 abbrev pub Accepts : JobFiles → Certificate → Outcome → Type 0
-Accepts (states file) c answered = IsFormAcceptance c answered
-Accepts files c answered = IsAcceptance (job_of c) answered
+Accepts (states file) c (Ok (answer.StateFalls many offer fall)) =
+    Offers (certificate_alone c) offer
+Accepts (states file) c found = IsLost found
+Accepts files c (Ok (answer.Checked certified error)) = certified ≡ job_of c
+Accepts files c found = IsLost found
 
 -- two files hold the same bytes, which are told
 abbrev pub HoldsTheSame : FilesSeen → List ℕ → FilesSeen → List ℕ → Type 0

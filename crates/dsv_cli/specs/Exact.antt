@@ -4,9 +4,9 @@ use Rattle.dsv_base.specs.Seen.{FilesSeen}
 use Rattle.dsv_command.specs.Table.{Task, checks_form, checks_ellipsoid, Request}
 use Rattle.dsv_command.specs.Table.{does, checks, generates}
 use Rattle.dsv_report.specs.declared.stop.Stop.{Stop}
-use Rattle.dsv_report.specs.declared.stop.Stop.TheVariants as stop
 use Rattle.dsv_report.specs.Stops.{Outcome}
 use Rattle.dsv_cli.specs.Accepted.{HoldsTheSame, HoldTheSame}
+use Rattle.dsv_cli.specs.Headline.{IsLost}
 use Rattle.dsv_cli.specs.JobRows.{IsAnswered}
 
 -- the file that a task names, if it names one, holds the same bytes, which are told
@@ -22,12 +22,6 @@ IsToldTheSame old then_old (does job) =
 IsToldTheSame old then_old (checks files name) =
     HoldTheSame old files then_old files × HoldsTheSame old name then_old name
 IsToldTheSame old then_old (generates seed count) = Unit {0}
-
--- the outcome is a fault of a read, or that there was no memory
-abbrev pub IsLost : Outcome → Type 0
-IsLost (Err (stop.ReadFault file)) = Unit {0}
-IsLost (Err stop.NoMemory) = Unit {0}
-IsLost other = ⊥
 
 -- If a request may end with a refusal, then this is what each answer to the request is while its
 -- files have the same bytes, but for faults of reads and want of memory.

@@ -118,6 +118,12 @@ IsOfGeneration seed count (Err stop.NoMemory) = Unit {0}
 IsOfGeneration seed count other = ⊥
 
 -- ---- what stays, and what is written
+-- the outcome is a fault of a read, or that there was no memory
+abbrev pub IsLost : Outcome → Type 0
+IsLost (Err (stop.ReadFault file)) = Unit {0}
+IsLost (Err stop.NoMemory) = Unit {0}
+IsLost other = ⊥
+
 -- What the files hold is as before, and the count of faults didn't fall.
 pub record AreKept (old new : FilesSeen) : Type 0 where
   pub held : new.held ≡ old.held

@@ -78,22 +78,15 @@ abbrev pub Decides : Task → Type 0
 Decides task =
     (property : RootProperty) × (schur_cohn : Bool) × (task ≡ decides property schur_cohn)
 
--- the task decides one; the Schur-Cohn form comes before any proposer, and a table decides at last
+-- the task decides one, with the Schur-Cohn form before any proposer, and a table at last
 abbrev pub AsksSchurCohn : Task → Type 0
 AsksSchurCohn task = (property : RootProperty) × (task ≡ decides property true)
 
--- the request is to decide a polynomial of a controller, for which forms may be wanted; all else is
--- decided by closed forms or by tables
-abbrev pub WantsForm : Option Request → Type 0
-WantsForm (Some (does job)) = (kind_of job.files ≡ of_kind.Controller) × Decides job.task
-WantsForm other = ⊥
-
--- the request is to decide such a polynomial, with the Schur-Cohn form first of all, and the table
--- last
-abbrev pub WantsSchurCohn : Option Request → Type 0
-WantsSchurCohn (Some (does job)) =
-    (kind_of job.files ≡ of_kind.Controller) × AsksSchurCohn job.task
-WantsSchurCohn other = ⊥
+-- the request is a job of a controller alone, with such a task: proposers are asked for no other,
+-- since all else is decided by closed forms, by tables or by searches
+abbrev pub Wants : (Task → Type 0) → Option Request → Type 0
+Wants Asks (Some (does job)) = (kind_of job.files ≡ of_kind.Controller) × Asks job.task
+Wants Asks other = ⊥
 
 -- The polynomial is none that its Schur-Cohn form is known to decide always.
 abbrev pub IsBeyond : List ℤ → Type 0
@@ -145,8 +138,3 @@ pub record AreSetsAsked {B P : Type 0} (place : B → P) (last : B → Option Ca
 -- the task is to seek a set
 abbrev pub Seeks : Task → Type 0
 Seeks task = (conflicts : ℕ) × (task ≡ seeks_set conflicts)
-
--- so is the request's
-abbrev pub WantsSet : Option Request → Type 0
-WantsSet (Some (does job)) = Seeks job.task
-WantsSet other = ⊥

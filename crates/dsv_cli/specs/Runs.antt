@@ -10,7 +10,7 @@ use Rattle.dsv_report.specs.Report.{status_of}
 use Rattle.dsv_cli.specs.declared.command.Done.{Done}
 use Rattle.dsv_cli.specs.JobRows.{IsAnswered, IsSaid, AreInRow}
 use Rattle.dsv_cli.specs.Headline.{AreKept, IsWritten, IfWhole}
-use Rattle.dsv_cli.specs.Proposers.{IfNoForm, WantsSchurCohn, is_low}
+use Rattle.dsv_cli.specs.Proposers.{IfNoForm, Wants, is_low, AsksSchurCohn}
 
 -- A run for these arguments: the files before and after it, the sink before and after it, how it is
 -- done, and what is said of the proposers of sets for words of a controller.
@@ -21,7 +21,8 @@ pub record IsDone (old new : FilesSeen) (from to : SinkSeen) (arguments : List (
   -- a polynomial of order 0 or 1, or 2 with small coefficients, is always decided
   pub low_orders : IfNoForm done.outcome (λ poly kept. is_low poly ≡ false)
   -- if the Schur-Cohn form is asked for, so is each: by its table at last
-  pub schur_cohn : WantsSchurCohn (request_of arguments) → IfNoForm done.outcome (λ poly kept. ⊥)
+  pub schur_cohn : Wants AsksSchurCohn (request_of arguments)
+      → IfNoForm done.outcome (λ poly kept. ⊥)
   -- what a certificate says of the words is what the texts of this row have, and so is how many
   -- states the report of a state-space controller says
   pub said : IsSaid old new (request_of arguments) done.outcome explained done.states done.words

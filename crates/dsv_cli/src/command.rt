@@ -14,7 +14,7 @@ ghost use Rattle.dsv_report.specs.Report.{status_of};
 ghost use Rattle.dsv_report.specs.declared.stop.Stop.TheVariants as stop;
 ghost use Rattle.dsv_cli.specs.Headline.{IsWritten, IfWhole};
 ghost use Rattle.dsv_cli.specs.Proposers.{IsAsked, AreSetsAsked};
-ghost use Rattle.dsv_cli.specs.Proposers.{WantsForm, WantsSet, WantsSchurCohn};
+ghost use Rattle.dsv_cli.specs.Proposers.{Wants, Decides, AsksSchurCohn, Seeks};
 ghost use Rattle.dsv_cli.specs.Runs.{IsDone};
 
 use crate::jobs::Found;
@@ -141,12 +141,12 @@ pub fn run<F: Files, K: Sink>(
         (λ b. (⟦<dyn FormProposer as FormProposer>⟧ b.vtable).last b.value)
         (λ b cs. sure b cs)
         (λ b cs. (⟦<dyn FormProposer as FormProposer>⟧ b.vtable).to_come b.value cs)
-        (WantsSchurCohn (request_of (map string_bytes arguments.now)))
+        (Wants AsksSchurCohn (request_of (map string_bytes arguments.now)))
         proposers.old.forms.items proposers.new.forms.items result.outcome }
     // A list that the job doesn't need stays as it was whatever the outcome, want of memory too.
-    ensures unneeded_sets { (WantsSet (request_of (map string_bytes arguments.now)) → ⊥)
+    ensures unneeded_sets { (Wants Seeks (request_of (map string_bytes arguments.now)) → ⊥)
         → proposers.new.sets.items ≡ proposers.old.sets.items }
-    ensures unneeded_forms { (WantsForm (request_of (map string_bytes arguments.now)) → ⊥)
+    ensures unneeded_forms { (Wants Decides (request_of (map string_bytes arguments.now)) → ⊥)
         → proposers.new.forms.items ≡ proposers.old.forms.items }
 {
     match read_line(alloc, arguments) {

@@ -9,7 +9,7 @@ ghost use Rattle.dsv_cli.specs.Causes.{IsPlain};
 ghost use Rattle.dsv_cli.specs.Headline.{AreKept};
 ghost use Rattle.dsv_cli.specs.JobRows.{IsTaskDone, of_words};
 ghost use Rattle.dsv_cli.specs.Proposers.{IsAsked, AreSetsAsked, AsksSchurCohn, Decides, Seeks};
-ghost use Rattle.dsv_cli.specs.Proposers.{WantsForm, WantsSchurCohn, WantsSet};
+ghost use Rattle.dsv_cli.specs.Proposers.{Wants, Decides, AsksSchurCohn, Seeks};
 ghost use Rattle.dsv_cli.specs.Stages.{IsAlone, IsEvidenceFor, IsNoController, IsRowWith};
 ghost use Rattle.dsv_cli.specs.Stages.{IsSaidBeside, evidence_view, kind_in, texts_in};
 ghost use Rattle.dsv_cli.specs.Stages.{texts_view, words_in};
@@ -112,7 +112,7 @@ fn task_outcome(
         (λ b cs. (⟦<dyn FormProposer as FormProposer>⟧ b.vtable).to_come b.value cs)
         (IsAlone (texts_in subject.entry) × AsksSchurCohn (task_view task.now))
         proposers.old.forms.items proposers.new.forms.items result }
-    ensures unneeded_sets { (Seeks (task_view task.now) → ⊥)
+    ensures unneeded_sets { (IsAlone (texts_in subject.entry) × Seeks (task_view task.now) → ⊥)
         → proposers.new.sets.items ≡ proposers.old.sets.items }
     ensures unneeded_forms { (IsAlone (texts_in subject.entry) × Decides (task_view task.now) → ⊥)
         → proposers.new.forms.items ≡ proposers.old.forms.items }
@@ -151,7 +151,7 @@ fn texts_outcome<F: Files>(
         (λ b cs. (⟦<dyn FormProposer as FormProposer>⟧ b.vtable).to_come b.value cs)
         (IsAlone (texts_view texts.now) × AsksSchurCohn (task_view job.now.task))
         proposers.old.forms.items proposers.new.forms.items result }
-    ensures unneeded_sets { (Seeks (task_view job.now.task) → ⊥)
+    ensures unneeded_sets { (IsAlone (texts_view texts.now) × Seeks (task_view job.now.task) → ⊥)
         → proposers.new.sets.items ≡ proposers.old.sets.items }
     ensures unneeded_forms { (IsAlone (texts_view texts.now) × Decides (task_view job.now.task) → ⊥)
         → proposers.new.forms.items ≡ proposers.old.forms.items }
@@ -182,11 +182,11 @@ pub(crate) fn job_outcome<F: Files>(
         (λ b. (⟦<dyn FormProposer as FormProposer>⟧ b.vtable).last b.value)
         (λ b cs. sure b cs)
         (λ b cs. (⟦<dyn FormProposer as FormProposer>⟧ b.vtable).to_come b.value cs)
-        (WantsSchurCohn (Some (does (job_view job.now))))
+        (Wants AsksSchurCohn (Some (does (job_view job.now))))
         proposers.old.forms.items proposers.new.forms.items result.outcome }
-    ensures unneeded_sets { (WantsSet (Some (does (job_view job.now))) → ⊥)
+    ensures unneeded_sets { (Wants Seeks (Some (does (job_view job.now))) → ⊥)
         → proposers.new.sets.items ≡ proposers.old.sets.items }
-    ensures unneeded_forms { (WantsForm (Some (does (job_view job.now))) → ⊥)
+    ensures unneeded_forms { (Wants Decides (Some (does (job_view job.now))) → ⊥)
         → proposers.new.forms.items ≡ proposers.old.forms.items }
 {
     match read_texts(alloc, &job.files, files) {

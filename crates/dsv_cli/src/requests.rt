@@ -8,7 +8,7 @@ ghost use Rattle.dsv_cli.specs.Causes.{IsPlain};
 ghost use Rattle.dsv_cli.specs.Headline.{IsOfGeneration, AreKept};
 ghost use Rattle.dsv_cli.specs.Proposers.{IsAsked, AreSetsAsked};
 ghost use Rattle.dsv_cli.specs.Stages.{IsSaidBeside};
-ghost use Rattle.dsv_cli.specs.Proposers.{WantsForm, WantsSet, WantsSchurCohn};
+ghost use Rattle.dsv_cli.specs.Proposers.{Wants, Decides, AsksSchurCohn, Seeks};
 
 use crate::check::check_outcome;
 use crate::jobs::{Found, job_outcome};
@@ -50,11 +50,11 @@ pub(crate) fn request_outcome<F: Files>(
         (λ b. (⟦<dyn FormProposer as FormProposer>⟧ b.vtable).last b.value)
         (λ b cs. sure b cs)
         (λ b cs. (⟦<dyn FormProposer as FormProposer>⟧ b.vtable).to_come b.value cs)
-        (WantsSchurCohn (Some (request_view request.now)))
+        (Wants AsksSchurCohn (Some (request_view request.now)))
         proposers.old.forms.items proposers.new.forms.items result.outcome }
-    ensures unneeded_sets { (WantsSet (Some (request_view request.now)) → ⊥)
+    ensures unneeded_sets { (Wants Seeks (Some (request_view request.now)) → ⊥)
         → proposers.new.sets.items ≡ proposers.old.sets.items }
-    ensures unneeded_forms { (WantsForm (Some (request_view request.now)) → ⊥)
+    ensures unneeded_forms { (Wants Decides (Some (request_view request.now)) → ⊥)
         → proposers.new.forms.items ≡ proposers.old.forms.items }
 {
     match request {

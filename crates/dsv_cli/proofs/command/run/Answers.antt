@@ -8,7 +8,7 @@ use Rattle.dsv_report.specs.Output.{output_of, certificate_written}
 use Rattle.dsv_report.specs.Report.{status_of}
 use Rattle.dsv_report.specs.declared.stop.Stop.TheVariants as stop
 use Rattle.dsv_cli.specs.Headline.{IsWritten, IfWhole}
-use Rattle.dsv_cli.specs.Proposers.{AreSetsAsked, IsAsked, WantsForm, WantsSet, WantsSchurCohn}
+use Rattle.dsv_cli.specs.Proposers.{AreSetsAsked, IsAsked, Wants, Decides, AsksSchurCohn, Seeks}
 use Rattle.dsv_cli.specs.Stages.{IsSaidBeside}
 use Rattle.dsv_cli.proofs.RunRows.{done_by, asks_why, asks_nothing}
 use Rattle.dsv_cli.proofs.Unasked.{sets_unasked}
@@ -50,20 +50,20 @@ returns-in-Ok-Asks-clause-forms g c =
     let found = c.request_outcome-found in
     rw c.put_found.ensures.outcome (subst
     (λ request. IsAsked (λ b. b.ptr) (λ b. (goal.FormProposer-dyn g (b.vtable, b.value)).last b.value) (λ b cs. (goal.FormProposer-dyn g (b.vtable, b.value)).sure b.value cs) (λ b cs. (goal.FormProposer-dyn g (b.vtable, b.value)).to_come b.value cs)
-    (WantsSchurCohn request) c.args.proposers.now.forms.items found.new.proposers.forms.items found.result.outcome)
+    (Wants AsksSchurCohn request) c.args.proposers.now.forms.items found.new.proposers.forms.items found.result.outcome)
     e found.ensures.forms)
 
 pub returns-in-Ok-Asks-clause-unneeded_sets : goal.returns-in-Ok-Asks-clause-unneeded_sets
 returns-in-Ok-Asks-clause-unneeded_sets g c =
     let e : Some (request_view c.in-Ok-Asks.request) ≡ request_of (map string_bytes c.args.arguments.now) = search rules in
     let found = c.request_outcome-found in
-    subst (λ request. (WantsSet request → ⊥) → found.new.proposers.sets.items ≡ c.args.proposers.now.sets.items) e found.ensures.unneeded_sets
+    subst (λ request. (Wants Seeks request → ⊥) → found.new.proposers.sets.items ≡ c.args.proposers.now.sets.items) e found.ensures.unneeded_sets
 
 pub returns-in-Ok-Asks-clause-unneeded_forms : goal.returns-in-Ok-Asks-clause-unneeded_forms
 returns-in-Ok-Asks-clause-unneeded_forms g c =
     let e : Some (request_view c.in-Ok-Asks.request) ≡ request_of (map string_bytes c.args.arguments.now) = search rules in
     let found = c.request_outcome-found in
-    subst (λ request. (WantsForm request → ⊥) → found.new.proposers.forms.items ≡ c.args.proposers.now.forms.items) e found.ensures.unneeded_forms
+    subst (λ request. (Wants Decides request → ⊥) → found.new.proposers.forms.items ≡ c.args.proposers.now.forms.items) e found.ensures.unneeded_forms
 
 pub returns-in-Ok-Explains-clause-run : goal.returns-in-Ok-Explains-clause-run
 returns-in-Ok-Explains-clause-run g c =

@@ -2,7 +2,7 @@ use Rattle.std.proofs.Common.{◌≡◌, true, subst, sym, Some}
 use Rattle.std.specs.Prelude.{Err}
 use Rattle.dsv_command.specs.Table.{does, has_cell}
 use Rattle.dsv_command.specs.Views.{files_view, job_view, task_view}
-use Rattle.dsv_cli.specs.Proposers.{AreSetsAsked, AsksSchurCohn, WantsSchurCohn}
+use Rattle.dsv_cli.specs.Proposers.{AreSetsAsked, AsksSchurCohn, Wants}
 use Rattle.dsv_cli.specs.Stages.{IsAlone, IsSaidBeside, texts_view}
 use Rattle.dsv_cli.proofs.SectionFiles.{kept_on}
 use Rattle.dsv_cli.proofs.Stages.{alone_kind, kind_of_texts, texts_beside, unread_beside}
@@ -40,9 +40,13 @@ returns-in-Ok-clause-forms g c =
     let job = job_view c.args.job.now in
     let came = texts_view c.in-Ok.texts in
     own_for (λ b. b.ptr) (λ b. (goal.FormProposer-dyn g (b.vtable, b.value)).last b.value) (λ b cs. (goal.FormProposer-dyn g (b.vtable, b.value)).sure b.value cs) (λ b cs. (goal.FormProposer-dyn g (b.vtable, b.value)).to_come b.value cs)
-    (IsAlone came × AsksSchurCohn job.task) (WantsSchurCohn (Some (does job))) c.args.proposers.now.forms.items c.texts_outcome.new.proposers.forms.items c.texts_outcome.result
+    (IsAlone came × AsksSchurCohn job.task) (Wants AsksSchurCohn (Some (does job))) c.args.proposers.now.forms.items c.texts_outcome.new.proposers.forms.items c.texts_outcome.result
     (λ a. (alone_kind (g.F.Files.seen c.args.files.now) job.files came c.in-Ok.ensures.texts a.0, a.1)) c.texts_outcome.ensures.forms
 
 pub returns-in-Ok-clause-unneeded_forms : goal.returns-in-Ok-clause-unneeded_forms
 returns-in-Ok-clause-unneeded_forms g c = λ no.
     c.texts_outcome.ensures.unneeded_forms (λ a. no (alone_kind (g.F.Files.seen c.args.files.now) (files_view c.args.job.now.files) (texts_view c.in-Ok.texts) c.in-Ok.ensures.texts a.0, a.1))
+
+pub returns-in-Ok-clause-unneeded_sets : goal.returns-in-Ok-clause-unneeded_sets
+returns-in-Ok-clause-unneeded_sets g c = λ no.
+    c.texts_outcome.ensures.unneeded_sets (λ a. no (alone_kind (g.F.Files.seen c.args.files.now) (files_view c.args.job.now.files) (texts_view c.in-Ok.texts) c.in-Ok.ensures.texts a.0, a.1))

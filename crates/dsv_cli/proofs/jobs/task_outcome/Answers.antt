@@ -35,7 +35,7 @@ returns-in-SeekSet-clause-forms g c =
     (IsAlone (texts_in c.args.subject) × AsksSchurCohn (task_view c.args.task.now)) c.args.proposers.now.forms.items c.in-SeekSet.budget.conflicts c.in-Controller.quantised c.sets_answer.result c.sets_answer.ensures.sets
 
 pub returns-in-SeekSet-clause-unneeded_sets : goal.returns-in-SeekSet-clause-unneeded_sets
-returns-in-SeekSet-clause-unneeded_sets g c = λ no. absurd (no (c.in-SeekSet.budget.conflicts, ap task_view c.in-SeekSet.is))
+returns-in-SeekSet-clause-unneeded_sets g c = λ no. absurd (no (rw c.in-Controller.is tt, (c.in-SeekSet.budget.conflicts, ap task_view c.in-SeekSet.is)))
 
 -- ---- its tasks that need no proposer
 pub returns-in_default-task-clause-places : goal.returns-in_default-task-clause-places

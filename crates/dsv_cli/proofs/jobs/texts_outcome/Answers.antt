@@ -62,3 +62,6 @@ returns-clause-forms g c = rw c.in_ok-subject.ensures.texts at c.task_outcome.en
 
 pub returns-clause-unneeded_forms : goal.returns-clause-unneeded_forms
 returns-clause-unneeded_forms g c = rw c.in_ok-subject.ensures.texts at c.task_outcome.ensures.unneeded_forms
+
+pub returns-clause-unneeded_sets : goal.returns-clause-unneeded_sets
+returns-clause-unneeded_sets g c = rw c.in_ok-subject.ensures.texts at c.task_outcome.ensures.unneeded_sets

@@ -1,6 +1,6 @@
 use Rattle.std.proofs.Common.{Some, refl, subst, sym}
 use Rattle.dsv_command.specs.Views.{request_view}
-use Rattle.dsv_cli.specs.Proposers.{AreSetsAsked, WantsSchurCohn}
+use Rattle.dsv_cli.specs.Proposers.{AreSetsAsked, Wants, AsksSchurCohn}
 use Rattle.dsv_cli.specs.Stages.{IsSaidBeside}
 use Rattle.dsv_cli.proofs.Unasked.{unasked, sets_unasked, plain_places}
 use Rattle.dsv_cli.proofs.requests.request_outcome.Goals as goal
@@ -33,7 +33,7 @@ returns-in-Check-clause-places g c = rw c.unsaid.ensures.outcome (plain_places c
 
 pub returns-in-Check-clause-forms : goal.returns-in-Check-clause-forms
 returns-in-Check-clause-forms g c = rw c.unsaid.ensures.outcome (unasked (λ b. b.ptr) (λ b. (goal.FormProposer-dyn g (b.vtable, b.value)).last b.value) (λ b cs. (goal.FormProposer-dyn g (b.vtable, b.value)).sure b.value cs) (λ b cs. (goal.FormProposer-dyn g (b.vtable, b.value)).to_come b.value cs)
-    (WantsSchurCohn (Some (request_view c.args.request.now))) c.args.proposers.now.forms.items c.check_outcome.result c.check_outcome.ensures.plain)
+    (Wants AsksSchurCohn (Some (request_view c.args.request.now))) c.args.proposers.now.forms.items c.check_outcome.result c.check_outcome.ensures.plain)
 
 pub returns-in-Generate-clause-row : goal.returns-in-Generate-clause-row
 returns-in-Generate-clause-row g c =
@@ -48,4 +48,4 @@ returns-in-Generate-clause-places g c = rw c.unsaid-in-Generate.ensures.outcome 
 
 pub returns-in-Generate-clause-forms : goal.returns-in-Generate-clause-forms
 returns-in-Generate-clause-forms g c = rw c.unsaid-in-Generate.ensures.outcome (unasked (λ b. b.ptr) (λ b. (goal.FormProposer-dyn g (b.vtable, b.value)).last b.value) (λ b cs. (goal.FormProposer-dyn g (b.vtable, b.value)).sure b.value cs) (λ b cs. (goal.FormProposer-dyn g (b.vtable, b.value)).to_come b.value cs)
-    (WantsSchurCohn (Some (request_view c.args.request.now))) c.args.proposers.now.forms.items c.generation_answer.result c.generation_answer.ensures.plain)
+    (Wants AsksSchurCohn (Some (request_view c.args.request.now))) c.args.proposers.now.forms.items c.generation_answer.result c.generation_answer.ensures.plain)
