@@ -30,9 +30,6 @@ heads x y xs ys h = cc
 tails : (x y : ℤ) (xs ys : List ℤ) → x ∷ xs ≡ y ∷ ys → xs ≡ ys
 tails x y xs ys h = cc
 
-pub division_start : (t : ℤ) (c : List ℤ) → Within root_limit (vector_of c 0) → IsDivision t c 0 (vector_of c 0) (row_of [])
-division_start t c h = record { value = refl; rest = refl; filled = refl; small = omega (arith, h) }
-
 -- what is carried is the quotient's next coefficient, and leads to those after it
 next : (t carry : ℤ) (c quotient : List ℤ) (i : ℕ) → IsDivision t c i carry quotient → i + 1 < length c
     → carry ∷ quotient_from t (vector_of c (i + 1) +ℤ t *ℤ carry) (drop (i + 1 + 1) c) ≡ get_or (whole_quotient t c) i (pos 0) ∷ drop (i + 1) (whole_quotient t c)

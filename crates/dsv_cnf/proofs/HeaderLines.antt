@@ -53,9 +53,6 @@ LineFault v c = AfterWord (codes "p cnf ") (VarsFault v c)
 some_last : Last (codes "\n")
 some_last = ([], refl, refl)
 
-clauses_zero : List ℕ
-clauses_zero = decimal 0 ++ codes "\n"
-
 some_clauses : (c : ℕ) → Clauses c (decimal 0 ++ codes "\n")
 some_clauses c = (0, omega arith, codes "\n", refl, some_last)
 

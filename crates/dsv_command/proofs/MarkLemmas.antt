@@ -1,6 +1,6 @@
 -- Shapes of arguments, as they are read.
-use Rattle.std.proofs.Common.{◌≡◌, ◌≢◌, ◌<◌, ◌==◌, ◌+◌, suc, ℕ, Bool, true, false, not, ◌||◌, cond, List, [], ◌∷◌, length, None, Some, refl, ap, arith}
-use Rattle.std.specs.List.{list_any, position_or_len, before_first, after_first}
+use Rattle.std.proofs.Common.{◌≡◌, ◌≢◌, ◌<◌, ◌==◌, ◌+◌, suc, ℕ, Bool, true, false, not, ◌||◌, cond, List, [], ◌∷◌, length, None, refl, ap, arith}
+use Rattle.std.specs.List.{list_any, position_or_len}
 use Rattle.std.proofs.lemmas.Bool.Decides.{nat_tests}
 use Rattle.dsv_command.specs.Shapes.{plain, long, dashed, dash, is_dash, is_equals, shape_of, shape_after_dash, shape_after_dashes}
 
@@ -16,17 +16,9 @@ some_step : (bs : List ℕ) (x : Bool) → (position_or_len is_equals bs < lengt
 some_step bs true ih h = refl
 some_step bs false ih h = ih (omega arith)
 
-some_equals : (bs : List ℕ) → position_or_len is_equals bs < length bs → list_any is_equals bs ≡ true
-some_equals [] h = absurd (omega arith)
-some_equals (b ∷ bs) h = some_step bs (is_equals b) (some_equals bs) h
-
 pub long_alone : (bs : List ℕ) → (length bs == 0) ≡ false → position_or_len is_equals bs ≡ length bs → long bs None ≡ shape_after_dashes bs
 long_alone [] e h = absurd (cc)
 long_alone (b ∷ bs) e h = rw (none_equals (b ∷ bs) h) refl
-
-pub long_with : (bs name value : List ℕ) → (length bs == 0) ≡ false → position_or_len is_equals bs < length bs → name ≡ before_first is_equals bs → value ≡ after_first is_equals bs → long name (Some value) ≡ shape_after_dashes bs
-long_with [] name value e h n v = absurd (cc)
-long_with (b ∷ bs) name value e h n v = rw (some_equals (b ∷ bs) h, n, v) refl
 
 not_dash : (b : ℕ) (bs : List ℕ) (x : Bool) → is_dash b ≡ x → ((rest : List ℕ) → b ∷ bs ≢ dash ∷ rest) → is_dash b ≡ false
 not_dash b bs true e h = absurd (h bs (ap (λ n. n ∷ bs) (grind (arith, nat_tests))))

@@ -9,7 +9,6 @@ use Rattle.std.proofs.lemmas.Bool.Decides.{nat_tests}
 use Rattle.std.proofs.lemmas.List.FromFn.{fill_by_all}
 use Rattle.std.specs.Int.RustNames.{unsigned_abs}
 use Rattle.std.specs.List.{range_with_len}
-use Rattle.dsv_algebra.specs.Narrow.{narrow_of}
 use Rattle.dsv_algebra.specs.Vectors.{Vector, vector_of}
 use Rattle.dsv_algebra.proofs.Normaliser.{ring, env, var, num, times}
 use Rattle.dsv_delta.specs.ZCoefficients.{Dyadic, dyadic, scaled, is_too_wide, first_wide, z_coefficient, expansion}
@@ -27,9 +26,6 @@ large_bounded z h = grind arith
 
 pub small_bounded : (z w : ℤ) → w ≡ z → unsigned_abs w < 2 ^ 110 → bounded z ≡ Some w
 small_bounded z w e h = grind arith
-
-pub narrow_bounded : (z : ℤ) → None ≡ narrow_of z → bounded z ≡ None
-narrow_bounded z e = grind arith
 
 -- a product with a greater power is no smaller
 pub power_grows : (z : ℤ) (b m n : ℕ) → 0 < b → m ≤ n → unsigned_abs (z *ℤ pos (b ^ m)) ≤ unsigned_abs (z *ℤ pos (b ^ n))
@@ -76,14 +72,8 @@ dyadic_positive n (suc f) h = halved (n % 2 == 0) n f refl h (λ m p. dyadic_pos
 even_test : (n : ℕ) → n % 2 ≡ 0 → (n % 2 == 0) ≡ true
 even_test n h = grind (arith, nat_tests)
 
-odd_test : (n : ℕ) → (n % 2 ≡ 0 → ⊥) → (n % 2 == 0) ≡ false
-odd_test n h = grind (arith, nat_tests)
-
 pub even_step : (n f k : ℕ) → f ≡ suc k → n % 2 ≡ 0 → dyadic (n / 2) k ≡ dyadic n f
 even_step n f k e h = rw (e, even_test n h) refl
-
-pub odd_end : (n f k : ℕ) → f ≡ suc k → (n % 2 ≡ 0 → ⊥) → dyadic n f ≡ record { numerator = n; denominator = 2 ^ f }
-odd_end n f k e h = rw (e, odd_test n h) refl
 
 pub dyadic_of : (d : Dyadic) (a b : ℕ) → a ≡ d.numerator → b ≡ d.denominator → record { numerator = a; denominator = b } ≡ d
 dyadic_of d a b e f = rw (e, f) refl

@@ -171,9 +171,6 @@ shown q o h =
     }
 
 -- ---- what the stages of the check hand on
-pub shape_where : (r : Result (Unit {0}) EllipsoidRefusal) (q : QuantisedView) (o : Ellipsoid) → refusal_of r ≡ first_of ((bad_shape q o, refusal.Shape) ∷ []) → OnOk r (IsShaped q o)
-shape_where (Ok x) q o h = shaped q o (passes (bad_shape q o) refusal.Shape (sym h))
-shape_where (Err e) q o h = tt
 
 pub bound_where : (r : Result (Unit {0}) EllipsoidRefusal) (q : QuantisedView) (o : Ellipsoid) → refusal_of r ≡ first_of (sign_tests q o) → OnOk r (HasBound q o)
 bound_where (Ok x) q o h = let g = signs q o (sym h) in record { low = g.bound_low; high = g.bound_high }

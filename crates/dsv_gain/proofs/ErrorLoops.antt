@@ -1,7 +1,6 @@
 -- Loops over samples of differences, nodes and registers.
-use Rattle.std.proofs.Common.{◌≡◌, ℕ, zero, suc, ◌+◌, ◌-◌, ◌<◌, ◌≤◌, inl, inr, Bool, true, false, if◌then◌else◌, List, [], ◌∷◌, ◌++◌, length, get_or, map, take, drop, refl, sym, ap, ◌∙◌, arith, add-one}
+use Rattle.std.proofs.Common.{◌≡◌, ℕ, zero, suc, ◌+◌, ◌-◌, ◌<◌, ◌≤◌, inl, inr, Bool, true, false, if◌then◌else◌, List, [], ◌∷◌, ◌++◌, length, get_or, map, drop, refl, sym, ap, ◌∙◌, arith, add-one}
 use Rattle.std.specs.Prelude.{Option, Some, None, nat_lt, ◌&&◌}
-use Rattle.std.proofs.lemmas.List.{take_more, drop_more, drop_all}
 use Rattle.std.proofs.lemmas.Bool.{cases_lt, ltb-true, ltb-false}
 use Rattle.dsv_word.specs.declared.format.Format.{Format}
 use Rattle.dsv_netlist.specs.declared.node.Node.{Node}
@@ -12,7 +11,7 @@ use Rattle.dsv_linear.specs.Forms.{◌>>=◌, range_at}
 use Rattle.dsv_gain.specs.declared.ends.Ends.TheVariants as shown
 use Rattle.dsv_gain.specs.declared.pass.Pass.{Pass}
 use Rattle.dsv_gain.specs.Samples.{ranges_in, pass_ends, after_pass}
-use Rattle.dsv_gain.specs.Gains.{hulls, hulls_after}
+use Rattle.dsv_gain.specs.Gains.{hulls_after}
 use Rattle.dsv_roundoff.specs.declared.offers.RoundoffOffer.{RoundoffOffer}
 use Rattle.dsv_gain.specs.Errors.{range_from, error_pass, kept_range, error_of, differences_from, range_of, node_range, difference_range, fits_before, holds_loaded, is_kept}
 
@@ -20,9 +19,6 @@ use Rattle.dsv_gain.specs.Errors.{range_from, error_pass, kept_range, error_of, 
 mapped : {A B : Type 0} (f : A → B) (xs : List A) (x : A) → map f (xs ++ x ∷ []) ≡ map f xs ++ f x ∷ []
 mapped f [] x = refl
 mapped f (y ∷ xs) x = ap (λ ys. f y ∷ ys) (mapped f xs x)
-
-pub map_next : {A B : Type 0} (f : A → B) (xs : List A) (d : A) (i : ℕ) (old now : List B) (y : B) → i < length xs → old ≡ map f (take i xs) → y ≡ f (get_or xs i d) → now ≡ old ++ y ∷ [] → now ≡ map f (take (i + 1) xs)
-map_next f xs d i old now y l o e n = n ∙ rw (o, e) (sym (mapped f (take i xs) (get_or xs i d))) ∙ ap (map f) (sym (take_more xs i d l))
 
 -- ---- samples
 pub sample_more : (nodes : List Node) (next : List ℕ) (depth i : ℕ) (pass later : Pass) (seen more : Option (List Range)) (now : List Range) (all : Option (List Range)) → i < depth
@@ -34,22 +30,6 @@ sample_more nodes next depth i pass later seen more now all l h e p s =
     rw (p, s) (ap (λ o. ranges_in o >>= λ ends. differences_from nodes next left (after_pass nodes next pass) (Some (hulls_after seen ends))) e)
     ∙ sym (ap (λ m. differences_from nodes next m pass seen) k)
     ∙ h
-
-pub sample_left : (nodes : List Node) (next : List ℕ) (left : ℕ) (pass : Pass) (seen : Option (List Range)) (value : ℕ) → shown.Leaves value ≡ pass_ends (length next) nodes pass → None ≡ differences_from nodes next left pass seen
-sample_left nodes next zero pass seen value e = ap (λ o. ranges_in o >>= λ now. ranges_in (pass_ends 0 nodes pass) >>= λ last. Some (hulls (hulls_after seen now) last)) e
-sample_left nodes next (suc left) pass seen value e = ap (λ o. ranges_in o >>= λ now. differences_from nodes next left (after_pass nodes next pass) (Some (hulls_after seen now))) e
-
-pub last_left : (nodes : List Node) (next : List ℕ) (pass : Pass) (seen : Option (List Range)) (now : List Range) (value : ℕ) → shown.Words now ≡ pass_ends (length next) nodes pass → shown.Leaves value ≡ pass_ends 0 nodes pass
-    → None ≡ differences_from nodes next 0 pass seen
-last_left nodes next pass seen now value e h =
-    ap (λ o. ranges_in o >>= λ last. Some (hulls (hulls_after seen now) last)) h
-    ∙ ap (λ o. ranges_in o >>= λ now. ranges_in (pass_ends 0 nodes pass) >>= λ last. Some (hulls (hulls_after seen now) last)) e
-
-pub last_shown : (nodes : List Node) (next : List ℕ) (pass : Pass) (seen : Option (List Range)) (now last : List Range) → shown.Words now ≡ pass_ends (length next) nodes pass → shown.Words last ≡ pass_ends 0 nodes pass
-    → Some (hulls (hulls_after seen now) last) ≡ differences_from nodes next 0 pass seen
-last_shown nodes next pass seen now last e h =
-    ap (λ o. ranges_in o >>= λ last. Some (hulls (hulls_after seen now) last)) h
-    ∙ ap (λ o. ranges_in o >>= λ now. ranges_in (pass_ends 0 nodes pass) >>= λ last. Some (hulls (hulls_after seen now) last)) e
 
 -- ---- nodes
 few_cases : (b : Bool) (k i : ℕ) → k ≤ i → (if b then suc k else k) ≤ suc i
@@ -137,40 +117,6 @@ kept_unequal f list ranges nodes [] [] h = absurd (h refl)
 kept_unequal f list ranges nodes [] (r ∷ rest) h = refl
 kept_unequal f list ranges nodes (i ∷ next) [] h = refl
 kept_unequal f list ranges nodes (i ∷ next) (r ∷ rest) h = ends_false (holds_loaded f list ranges nodes i r) (is_kept f list ranges nodes next rest) (kept_unequal f list ranges nodes next rest (λ e. h (ap suc e)))
-
-begins_false : (p q : Bool) → p ≡ false → (p && q) ≡ false
-begins_false true q e = absurd cc
-begins_false false q e = refl
-
-begins_true : (p q : Bool) → p ≡ true → (p && q) ≡ q
-begins_true true q e = refl
-begins_true false q e = absurd cc
-
-kept_step : (f : Format) (list ranges : List Range) (nodes : List Node) (next : List ℕ) (rest : List Range) (j : ℕ) (d : Range) → j < length next → j < length rest
-    → is_kept f list ranges nodes (drop j next) (drop j rest)
-    ≡ ((holds_loaded f list ranges nodes (get_or next j 0) (get_or rest j d)) && is_kept f list ranges nodes (drop (j + 1) next) (drop (j + 1) rest))
-kept_step f list ranges nodes next rest j d l m =
-    ap (λ ns. is_kept f list ranges nodes ns (drop j rest)) (drop_more next j 0 l) ∙ ap (λ rs. is_kept f list ranges nodes (get_or next j 0 ∷ drop (j + 1) next) rs) (drop_more rest j d m)
-
-pub kept_more : (f : Format) (list ranges : List Range) (nodes : List Node) (next : List ℕ) (rest : List Range) (j : ℕ) (d : Range) (b : Bool) → j < length next → j < length rest → is_kept f list ranges nodes (drop j next) (drop j rest) ≡ is_kept f list ranges nodes next rest
-    → b ≡ (holds_loaded f list ranges nodes (get_or next j 0) (get_or rest j d)) → b ≡ true
-    → is_kept f list ranges nodes (drop (j + 1) next) (drop (j + 1) rest) ≡ is_kept f list ranges nodes next rest
-kept_more f list ranges nodes next rest j d b l m h e t =
-    sym (kept_step f list ranges nodes next rest j d l m
-    ∙ begins_true (holds_loaded f list ranges nodes (get_or next j 0) (get_or rest j d)) (is_kept f list ranges nodes (drop (j + 1) next) (drop (j + 1) rest)) (sym e ∙ t))
-    ∙ h
-
-pub kept_broken : (f : Format) (list ranges : List Range) (nodes : List Node) (next : List ℕ) (rest : List Range) (j : ℕ) (d : Range) (b : Bool) → j < length next → j < length rest → is_kept f list ranges nodes (drop j next) (drop j rest) ≡ is_kept f list ranges nodes next rest
-    → b ≡ (holds_loaded f list ranges nodes (get_or next j 0) (get_or rest j d)) → b ≡ false → false ≡ is_kept f list ranges nodes next rest
-kept_broken f list ranges nodes next rest j d b l m h e t =
-    sym (kept_step f list ranges nodes next rest j d l m
-    ∙ begins_false (holds_loaded f list ranges nodes (get_or next j 0) (get_or rest j d)) (is_kept f list ranges nodes (drop (j + 1) next) (drop (j + 1) rest)) (sym e ∙ t))
-    ∙ h
-
-pub kept_all : (f : Format) (list ranges : List Range) (nodes : List Node) (next : List ℕ) (rest : List Range) (j : ℕ) → length next ≤ j → length rest ≤ j → is_kept f list ranges nodes (drop j next) (drop j rest) ≡ is_kept f list ranges nodes next rest
-    → true ≡ is_kept f list ranges nodes next rest
-kept_all f list ranges nodes next rest j l m h =
-    sym (ap (λ ns. is_kept f list ranges nodes ns (drop j rest)) (drop_all j next l) ∙ ap (λ rs. is_kept f list ranges nodes [] rs) (drop_all j rest m)) ∙ h
 
 -- ---- what the code gives
 pub shown_of : (net : Net) (offer : RoundoffOffer) (nodes : List Node) (next : List ℕ) (pass : Pass) (ranges list : List Range) (out : Option Range) → nodes ≡ net.nodes → next ≡ net.next → pass ≡ error_pass net (map range_from offer.ranges)

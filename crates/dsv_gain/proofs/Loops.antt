@@ -1,7 +1,7 @@
 -- Loops over nodes, ranges, registers and samples.
 use Rattle.std.proofs.Common.{◌≡◌, ℕ, zero, suc, ◌+◌, ◌-◌, ◌<◌, ◌≤◌, inl, inr, ◌⊎◌, Bool, false, List, [], ◌∷◌, ◌++◌, length, get_or, take, drop, refl, sym, ap, ◌∙◌, arith, add-one, zero-add, length-append}
-use Rattle.std.specs.Prelude.{Option, Some, None}
-use Rattle.std.proofs.lemmas.List.{take_more, drop_more, drop_all, append-nil, append_assoc}
+use Rattle.std.specs.Prelude.{Option, Some}
+use Rattle.std.proofs.lemmas.List.{take_more, drop_more, append-nil, append_assoc}
 use Rattle.dsv_netlist.specs.declared.node.Node.{Node}
 use Rattle.dsv_netlist.specs.declared.node.Node.TheVariants.{Input, Reg, MulConst, Round, Add, Sub, Fit, Scale}
 use Rattle.dsv_linear.specs.declared.range.Range.{Range}
@@ -81,14 +81,6 @@ pub record Walked (count : ℕ) (pass : Pass) (nodes : List Node) (i : ℕ) (wal
   pub step_is : with_ends ends.step (ends_from 0 pass (drop i nodes) walk) ≡ pass_ends 0 nodes pass
   pub few : walk.own ≤ pass.count + i
 
-pub walked_first : (count : ℕ) (pass : Pass) (nodes : List Node) (walk : Walk) (ends : SampleEnds) → walk ≡ begun pass → ends.run ≡ shown.Words [] → ends.step ≡ shown.Words [] → Walked count pass nodes 0 walk ends
-walked_first count pass nodes walk ends w r s = record {
-  walk_is = ap (walk_from pass nodes) w;
-  run_is = rw (w, r) (with_first (pass_ends count nodes pass));
-  step_is = rw (w, s) (with_first (pass_ends 0 nodes pass));
-  few = rw w (omega arith);
-}
-
 ends_more : (count : ℕ) (pass : Pass) (nodes : List Node) (d : Node) (i : ℕ) (walk next : Walk) (ends more : Ends) → i < length nodes → Some next ≡ after_node pass walk (get_or nodes i d)
     → with_ends ends (ends_from count pass (drop i nodes) walk) ≡ pass_ends count nodes pass → more ≡ with_ends ends (shown_by count pass (length walk.weights) (get_or nodes i d) next)
     → with_ends more (ends_from count pass (drop (i + 1) nodes) next) ≡ pass_ends count nodes pass
@@ -126,37 +118,6 @@ walked_more count pass nodes d i walk next ends more l w e q r = record {
   run_is = ends_more count pass nodes d i walk next ends.run more.run l e w.run_is q;
   step_is = ends_more 0 pass nodes d i walk next ends.step more.step l e w.step_is r;
   few = let few = w.few in let m = own_more walk.own (get_or nodes i d) in let o = own_is pass walk next (get_or nodes i d) e in omega (arith, few, m, o);
-}
-
--- the walk is given up
-ends_left : (count : ℕ) (pass : Pass) (nodes : List Node) (d : Node) (i : ℕ) (walk : Walk) (ends last : Ends) → i < length nodes → None ≡ after_node pass walk (get_or nodes i d)
-    → with_ends ends (ends_from count pass (drop i nodes) walk) ≡ pass_ends count nodes pass → last ≡ with_ends ends (shown.Leaves 0) → last ≡ pass_ends count nodes pass
-ends_left count pass nodes d i walk ends last l e h q =
-    let n = get_or nodes i d in
-    q
-    ∙ ap (λ (o : Option Walk). with_ends ends (then_ends (shown.Leaves 0) (shown_by count pass (length walk.weights) n) (ends_from count pass (drop (i + 1) nodes)) o)) e
-    ∙ sym (ap (λ (ns : List Node). with_ends ends (ends_from count pass ns walk)) (drop_more nodes i d l))
-    ∙ h
-
--- what a sample shows, and what is known after it
-pub record IsSample (count : ℕ) (pass : Pass) (nodes : List Node) (it : Sample) : Type 0 where
-  pub walk_is : it.walk ≡ walk_from pass nodes (begun pass)
-  pub run_is : it.ends.run ≡ pass_ends count nodes pass
-  pub step_is : it.ends.step ≡ pass_ends 0 nodes pass
-
-pub walked_left : (count : ℕ) (pass : Pass) (nodes : List Node) (d : Node) (i : ℕ) (walk : Walk) (ends last : SampleEnds) → i < length nodes → Walked count pass nodes i walk ends → None ≡ after_node pass walk (get_or nodes i d)
-    → last.run ≡ with_ends ends.run (shown.Leaves 0) → last.step ≡ with_ends ends.step (shown.Leaves 0) → IsSample count pass nodes (record { ends = last; walk = None })
-walked_left count pass nodes d i walk ends last l w e q r = record {
-  walk_is = ap (λ (o : Option Walk). o >>= walk_from pass (drop (i + 1) nodes)) e ∙ sym (ap (λ (ns : List Node). walk_from pass ns walk) (drop_more nodes i d l)) ∙ w.walk_is;
-  run_is = ends_left count pass nodes d i walk ends.run last.run l e w.run_is q;
-  step_is = ends_left 0 pass nodes d i walk ends.step last.step l e w.step_is r;
-}
-
-pub walked_all : (count : ℕ) (pass : Pass) (nodes : List Node) (i : ℕ) (walk : Walk) (ends : SampleEnds) → length nodes ≤ i → Walked count pass nodes i walk ends → IsSample count pass nodes (record { ends = ends; walk = Some walk })
-walked_all count pass nodes i walk ends l w = record {
-  walk_is = sym (ap (λ (ns : List Node). walk_from pass ns walk) (drop_all i nodes l)) ∙ w.walk_is;
-  run_is = sym (with_none ends.run) ∙ sym (ap (λ (ns : List Node). with_ends ends.run (ends_from count pass ns walk)) (drop_all i nodes l)) ∙ w.run_is;
-  step_is = sym (with_none ends.step) ∙ sym (ap (λ (ns : List Node). with_ends ends.step (ends_from 0 pass ns walk)) (drop_all i nodes l)) ∙ w.step_is;
 }
 
 -- ---- lists of what nodes bring

@@ -1,5 +1,5 @@
 -- Runs out of a candidate's set, and starts whose sample breaks.
-use Rattle.std.proofs.Common.{◌≡◌, ℕ, ◌+◌, ◌<◌, ◌≤◌, inl, inr, List, [], ◌∷◌, ◌++◌, ◌∙◌, refl, ap, sym, subst, length, take, drop, get_or, min, arith, below_more}
+use Rattle.std.proofs.Common.{◌≡◌, ℕ, ◌+◌, ◌<◌, ◌≤◌, inl, inr, List, [], ◌∷◌, ◌++◌, ◌∙◌, ap, sym, subst, length, take, drop, get_or, min, arith, below_more}
 use Rattle.std.specs.Prelude.{◌≤ℤ◌, slice_get}
 use Rattle.std.specs.List.{All}
 use Rattle.std.proofs.Math.IntN.{ℤ, pos}
@@ -41,9 +41,6 @@ pub record IsOnWay (net : Net) (c : Candidate) (start inputs : List ℤ) (i : �
 
 pub zero_stands : (net : Net) (rs : List ℤ) (n : ℕ) → n ≡ length net.next → rs ≡ zeros n → AreRegisters net rs
 zero_stands net rs n e z = record { many = ap length z ∙ (length-replicate n (pos 0) ∙ e); words = zeros_are_words net.format rs n z }
-
-pub way_begins : (net : Net) (c : Candidate) (start inputs : List ℤ) → AreRegisters net start → IsOnWay net c start inputs 0 start
-way_begins net c start inputs s = record { stands = s; same = refl; inside = λ n l. absurd (omega arith) }
 
 pub way_more : (net : Net) (c : Candidate) (start inputs : List ℤ) (i : ℕ) (rs new : List ℤ) → i < length inputs → IsOnWay net c start inputs i rs → IsInSet c rs → All (IsWord net.format) new
     → new ≡ (step_of net rs (get_or inputs i (pos 0))).past → IsOnWay net c start inputs (i + 1) new

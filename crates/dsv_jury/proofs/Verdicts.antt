@@ -90,22 +90,6 @@ pub next_step : (d n : ℕ) (row : List ℤ) → last_leads (suc d) (vector_of r
     → verdict_from (suc d) n row ≡ verdict_from d (n + 1) (row_after (suc d) row)
 next_step d n row h w = rw (h, w) refl
 
-pub verdict_inside : (e n : ℕ) (row : List ℤ) (v : Jury) → e ≡ 0 → verdict_from e n row ≡ v → verdict.Inside ≡ v
-verdict_inside e n row v z f = rw z at f
-
-pub verdict_not_inside : (e d n : ℕ) (row : List ℤ) (v : Jury) → e ≡ suc d → last_leads e (vector_of row) ≡ true
-    → verdict_from e n row ≡ v → verdict.NotInside n ≡ v
-verdict_not_inside e d n row v p h f =
-    let k : last_leads (suc d) (vector_of row) ≡ true = rw p at h in
-    sym (not_inside_step d n row k) ∙ ap (λ t. verdict_from t n row) (sym p) ∙ f
-
-pub verdict_wide : (e d n : ℕ) (row : List ℤ) (v : Jury) → e ≡ suc d → last_leads e (vector_of row) ≡ false → is_wide (row_after e row) ≡ true
-    → verdict_from e n row ≡ v → verdict.Wide (n + 1) ≡ v
-verdict_wide e d n row v p h w f =
-    let k : last_leads (suc d) (vector_of row) ≡ false = rw p at h in
-    let u : is_wide (row_after (suc d) row) ≡ true = ap (λ t. is_wide (row_after t row)) (sym p) ∙ w in
-    sym (wide_step d n row k u) ∙ ap (λ t. verdict_from t n row) (sym p) ∙ f
-
 pub verdict_after : (e d n : ℕ) (row next : List ℤ) (v : Jury) → e ≡ suc d → last_leads e (vector_of row) ≡ false
     → next ≡ row_after e row → is_wide (row_after e row) ≡ false
     → verdict_from e n row ≡ v → verdict_from (length next - 1) (n + 1) next ≡ v

@@ -24,10 +24,6 @@ pub size_fits : (z : ℤ) → unsigned_abs z < 2 ^ 127 → SFits w128 z
 size_fits (pos n) h = record { sfits = omega arith }
 size_fits (negsuc n) h = record { sfits = omega arith }
 
-pub small_is_short : (z : ℤ) → IsSmall z → SFits w64 z
-small_is_short (pos n) h = record { sfits = omega arith }
-small_is_short (negsuc n) h = record { sfits = omega arith }
-
 pub small_fits : (z : ℤ) → IsSmall z → SFits w128 z
 small_fits z h = size_fits z (omega arith)
 

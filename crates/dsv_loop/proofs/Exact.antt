@@ -1,10 +1,10 @@
 -- Exact quotients, and common multiples made by them.
-use Rattle.std.proofs.Common.{◌≡◌, ◌≢◌, ℕ, zero, suc, ◌*◌, ◌/◌, ◌<◌, [], ◌∷◌, Option, Some, None, refl, sym, ap, ◌∙◌, arith}
+use Rattle.std.proofs.Common.{◌≡◌, ◌≢◌, ℕ, zero, suc, ◌*◌, ◌/◌, ◌<◌, [], ◌∷◌, Option, Some, None, refl, sym, ◌∙◌, arith}
 use Rattle.std.proofs.Math.IntN.{ℤ, pos, negsuc, ◌-ℤ◌, ◌*ℤ◌}
 use Rattle.std.proofs.Math.Nat.{mul-div_cancel'}
 use Rattle.std.proofs.lemmas.Int.{ints}
 use Rattle.std.proofs.lemmas.Nat.{mul-le}
-use lib.Signed.{◌<ℤ◌, ◌≤ℤ◌}
+use lib.Signed.{◌<ℤ◌}
 use Rattle.std.specs.Prelude.{MatchOption}
 use Rattle.std.specs.Int.{int_div_euclid, ◌∣◌}
 use Rattle.std.specs.Int.RustNames.{unsigned_abs}
@@ -65,11 +65,6 @@ number_positive n h = omega (arith, ints)
 
 pub divisor_positive : (a b g : ℤ) → g ≡ pos (gcd (unsigned_abs a) (unsigned_abs b)) → pos 0 <ℤ b → pos 0 <ℤ g
 divisor_positive a b g e h = rw e (number_positive (gcd (unsigned_abs a) (unsigned_abs b)) (positive_gcd (unsigned_abs a) (unsigned_abs b) (size_positive b h)))
-
-pub multiple_is : (a b g q m : ℤ) → pos 0 ≤ℤ a → pos 0 <ℤ b → g ≡ pos (gcd (unsigned_abs a) (unsigned_abs b)) → q ≡ int_div_euclid b g → m ≡ a *ℤ q → m ≡ pos (lcm (unsigned_abs a) (unsigned_abs b))
-multiple_is (pos x) (pos y) g q m p h is_g is_q is_m = is_m ∙ ap (λ z. pos x *ℤ z) (is_q ∙ ap (int_div_euclid (pos y)) is_g)
-multiple_is (pos x) (negsuc y) g q m p h is_g is_q is_m = absurd (omega (arith, ints))
-multiple_is (negsuc x) b g q m p h is_g is_q is_m = absurd (omega (arith, ints))
 
 some_factor : (q g n : ℕ) → g * q ≡ n → 0 < n → 0 < q
 some_factor zero g n e h = absurd (omega arith)

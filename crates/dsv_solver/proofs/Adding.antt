@@ -99,18 +99,6 @@ pub record AllEmpty (n : ℕ) (lists : List (List ℕ)) : Type 0 where
   pub count : length lists ≡ n
   pub each : (k : ℕ) → get_or lists k [] ≡ []
 
-empty_push : (xs : List (List ℕ)) (k : ℕ) → get_or xs k [] ≡ [] → get_or (xs ++ [] ∷ []) k [] ≡ []
-empty_push [] zero h = refl
-empty_push [] (suc k) h = refl
-empty_push (x ∷ xs) zero h = h
-empty_push (x ∷ xs) (suc k) h = empty_push xs k h
-
-pub all_empty_more : (n : ℕ) (xs new : List (List ℕ)) (l : List ℕ) → l ≡ [] → new ≡ xs ++ l ∷ [] → AllEmpty n xs → AllEmpty (n + 1) new
-all_empty_more n xs new l e f h = rw (f, e) (record { count = omega (arith, h.count, length-append xs ([] ∷ [])); each = λ k. empty_push xs k (h.each k) })
-
-pub all_empty_none : (xs : List (List ℕ)) → xs ≡ [] → AllEmpty 0 xs
-all_empty_none xs e = rw e (record { count = refl; each = λ k. refl })
-
 pub no_pair : (ps : List Pair) (i : ℕ) (p : Pair) → ps ≡ [] → slice_get ps i ≡ Some p → ⊥
 no_pair ps i p e g = let f = rw e at g in cc
 

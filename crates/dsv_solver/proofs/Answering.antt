@@ -16,11 +16,11 @@ use Rattle.dsv_trail.specs.TrailView.{TrailView}
 use Rattle.dsv_trail.specs.Places.{falsifies}
 use Rattle.dsv_solver.specs.WatchView.{WatchView}
 use Rattle.dsv_solver.specs.Walking.{live_of}
-use Rattle.dsv_solver.specs.Propagation.{IsReady, IsConflict}
+use Rattle.dsv_solver.specs.Propagation.{IsReady}
 use Rattle.dsv_solver.specs.Search.{IsComplete}
 use Rattle.dsv_solver.specs.Learning.{HasGrown}
 use Rattle.dsv_solver.specs.Ending.{AreValuesOf, IsRestarted, minus}
-use Rattle.dsv_solver.specs.Solving.{IsRefuted, first_clauses, IsBegun, IsStuck, IsSearching}
+use Rattle.dsv_solver.specs.Solving.{IsRefuted, first_clauses, IsBegun, IsSearching}
 use Rattle.dsv_solver.proofs.LogSteps.{begun, learned, ended}
 use Rattle.dsv_solver.proofs.Finals.{all-fine, spent-holds}
 use Rattle.dsv_solver.proofs.Levels.{fines-now}
@@ -86,10 +86,6 @@ value_by t values x false con e h =
     let f : falsifies t.marks (minus x) ≡ false = not_true (falsifies t.marks (minus x)) (λ g. con (minus x) g h) in
     rw (e ∙ f) refl
 
-pub stuck_now : (f g : FormulaView) (t : TrailView) (w : WatchView) (head i : ℕ) (log : List Step) → IsSearching f g t w head log → t.limits ≡ [] → IsConflict g t i → IsStuck g t i
-stuck_now f g t w head i log s z h =
-    record { vars = s.ready.trail_vars; justified = s.ready.justified; zero_level = z; conflict = h }
-
 pub modelled : (g : FormulaView) (t : TrailView) (w : WatchView) (head : ℕ) (values : List Bool) → IsReady g t w head → IsComplete t head → AreValuesOf t values → AreOver g.vars g.clauses → IsModel g values
 modelled g t w head values r c v over =
     record {
@@ -120,19 +116,6 @@ ready_restarted g s t w head now h r =
         ap (λ (x : TrailView). x.vars) b.is,
       )
     ]
-
-pub begun_new : (f : FormulaView) (t : TrailView) (w : WatchView) → t ≡ record { vars = f.vars; marks = []; limits = [] } → w.vars ≡ f.vars → w.pairs ≡ [] → IsBegun f t w 0
-begun_new f t w te wv wp =
-    rw te (record {
-      ready = record {
-        trail_vars = refl;
-        watch_vars = wv;
-        justified = record { placed = λ i m e. cc; consistent = λ q a b. cc; limits = λ j k e. cc; rising = λ i j a b l x y. cc };
-        watched = record { len = ap length wp; each = λ i c p a b. absurd (let g = a in cc) };
-        head_in = omega arith;
-      };
-      zero_level = refl;
-    })
 
 pub grown_count : (f g : FormulaView) (log new : List Step) (n : ℕ) → HasGrown f g log new → length log ≡ n → length new ≡ n + 1
 grown_count f g log new n h e = ap length h.log_is ∙ omega (arith, e, length-append log (Add (length f.clauses + 1) h.clause h.hints ∷ []))

@@ -4,7 +4,7 @@ use Rattle.std.proofs.lemmas.Bool.{cases_lt}
 use Rattle.dsv_cnf.specs.Literal.{Literal, negation}
 use Rattle.dsv_trail.specs.TrailView.{TrailView}
 use Rattle.dsv_trail.specs.Places.{falsifies}
-use Rattle.dsv_solver.specs.Search.{IsFull, IsFullTo}
+use Rattle.dsv_solver.specs.Search.{IsFullTo}
 use Rattle.dsv_cnf.proofs.LiteralLemmas.{negation-twice}
 
 -- the literals of one variable
@@ -29,6 +29,3 @@ full_more t x l is h full =
             ]
       ];
     }
-
-pub full_all : (t : TrailView) (n : ℕ) → n ≡ t.vars → IsFullTo t n → IsFull t
-full_all t n e full = record { total = λ q lt. full.total q (omega (arith, lt, e)) }

@@ -26,10 +26,6 @@ pub record IsLowest (t : TrailView) (high : ℕ) (M : List Literal) (lowest : �
       → lowest ≤ place_of t.marks q
   pub reached : IsReached t high M lowest ⊎ (lowest ≡ length t.marks)
 
--- every literal of the list is false
-pub record AreFalse (t : TrailView) (c : List Literal) : Type 0 where
-  pub each : (q : Literal) → contains c q ≡ true → falsifies t.marks q ≡ true
-
 abbrev pub is_low : TrailView → ℕ → ℕ → Literal → Bool
 is_low t zero_end high q = nat_le zero_end (place_of t.marks q) && nat_lt (place_of t.marks q) high
 

@@ -1,5 +1,5 @@
 -- What breaks, cycles or replays by a behaviour does so by each that agrees with it.
-use Rattle.std.proofs.Common.{◌≡◌, ℕ, List, length, map, take, refl, sym, ap, subst, ◌∙◌}
+use Rattle.std.proofs.Common.{◌≡◌, ℕ, List, length, map, take, sym, ap, subst, ◌∙◌}
 use Rattle.std.proofs.Math.IntN.{ℤ, pos}
 use Rattle.std.specs.Prelude.{◌≢◌}
 use Rattle.std.specs.List.{All, Contains}
@@ -11,15 +11,6 @@ use Rattle.dsv_system.specs.Systems.{Behaviour, Agree, zeros}
 use Rattle.dsv_system.specs.Breaks.{IsOutside, Breaks, IsFirstBreak, Replays}
 use Rattle.dsv_system.specs.Cycles.{Returns, IsLeastPeriod, Cycles}
 
-pub agree_self : (b : Behaviour) → Agree b b
-agree_self b = record {
-  many = refl;
-  forward = refl;
-  format = refl;
-  rows = λ start xs l. refl;
-  registers = λ start xs l. refl;
-}
-
 pub agree_back : (b c : Behaviour) → Agree b c → Agree c b
 agree_back b c a = record {
   many = sym a.many;
@@ -27,15 +18,6 @@ agree_back b c a = record {
   format = sym a.format;
   rows = λ start xs l. sym (a.rows start xs (l ∙ a.many));
   registers = λ start xs l. sym (a.registers start xs (l ∙ a.many));
-}
-
-pub agree_then : (b c d : Behaviour) → Agree b c → Agree c d → Agree b d
-agree_then b c d p q = record {
-  many = p.many ∙ q.many;
-  forward = p.forward ∙ q.forward;
-  format = p.format ∙ q.format;
-  rows = λ start xs l. p.rows start xs (l ∙ sym q.many) ∙ q.rows start xs l;
-  registers = λ start xs l. p.registers start xs (l ∙ sym q.many) ∙ q.registers start xs l;
 }
 
 -- the rows from registers of zeros

@@ -13,16 +13,16 @@ use Rattle.dsv_algebra.proofs.Signs.{mul_positive}
 use Rattle.dsv_algebra.proofs.KeptAway.{power_positive}
 use Rattle.dsv_apart.proofs.Bounds.{times_at_most}
 use Rattle.dsv_apart.proofs.Apart.{nothing_both}
-use Rattle.dsv_table.specs.Table.{verdict_from, verdict_of}
+use Rattle.dsv_table.specs.Table.{verdict_from}
 use Rattle.dsv_table.specs.Verdicts.{IsShown, HasFallingForm, HasKeptAwayForm}
 use Rattle.dsv_table.specs.Rates.{scaled, HasFallAtRate, HasKeptAwayAtRate}
 use Rattle.dsv_table.specs.RootSize.{parts, is_inside, is_inside_at, RootSizeView, IsRootSize, RootSizesAreShown, OneRootSize}
-use Rattle.dsv_table.specs.Search.{ArePowers, AreScaled, AreSteps, IsBracket, raised_least}
+use Rattle.dsv_table.specs.Search.{ArePowers, IsBracket, raised_least}
 use Rattle.dsv_table.specs.declared.verdict.TableVerdict.{TableVerdict}
 use Rattle.dsv_table.specs.declared.verdict.TableVerdict.TheVariants as verdict
 use Rattle.dsv_table.proofs.Sides.{either}
 use Rattle.dsv_table.proofs.Lists.{entries_more}
-use Rattle.dsv_table.proofs.Verdicts.{decides, verdict_same}
+use Rattle.dsv_table.proofs.Verdicts.{decides}
 use Rattle.dsv_table.proofs.Rates.{lead_of, falls_at_rate}
 use Rattle.dsv_table.proofs.RatesAway.{kept_away_at_rate}
 use Rattle.dsv_table.proofs.Dominance.{root_bound, far_inside}
@@ -205,15 +205,6 @@ nearer cs p b l h t =
     room_less (bound_of cs -ℤ (p +ℤ p)) (bound_of cs -ℤ p) (omega (arith, ints, h)) (omega (arith, ints, k))
 
 -- ---- the steps of the search
--- The table of a list with the scaled coefficients is that of the scaled polynomial.
-pub scaled_verdict : (cs list : List ℤ) (p : ℤ) → 0 < length cs → AreScaled cs p list → is_inside (verdict_of list) ≡ is_inside_at p cs
-scaled_verdict cs list p b s =
-    let d = length cs - 1 in
-    let q = s.places in
-    let t : length list - 1 ≡ d = omega arith in
-    ap is_inside
-    (ap (λ k. verdict_from k 0 (vector_of list)) t
-    ∙ verdict_same d 0 (vector_of list) (scaled d p parts (vector_of cs)) (λ i h. s.same i (omega arith)))
 
 -- one power more
 powers_more : (base : ℤ) (k : ℕ) (xs : List ℤ) (x : ℤ) → ArePowers base k xs → x ≡ power base k → ArePowers base (k + 1) (xs ++ x ∷ [])
@@ -281,22 +272,3 @@ step_taken cs left rest least step higher a k e h =
       f.0,
       rw (h, f.1) (narrower cs least (length rest) (subst (λ n. IsBracket cs least n) f.2 k)),
     )
-
-pub root_size_of : (cs : List ℤ) (least greatest : ℤ) → IsBracket cs least 0 → greatest ≡ least +ℤ pos 1
-    → IsRootSize cs (record { least = least; greatest = greatest })
-root_size_of cs least greatest k e = record {
-  next = e;
-  least = k.not_negative;
-  inside = subst (λ z. is_inside_at z cs ≡ true) (sym e) k.inside;
-  not_inside = k.not_inside;
-}
-
-pub first_bracket : (cs steps : List ℤ) (least : ℤ) → AreSteps cs steps → least ≡ pos 0 → IsBracket cs least (length steps)
-first_bracket cs steps least s e =
-    let p = power (pos 2) (length steps) in
-    let k : p ≡ least +ℤ p = rw e (ring (env (p ∷ [])) (var 0) (plus (num (pos 0)) (var 0)) refl) in
-    record {
-      not_negative = omega (arith, ints, e);
-      inside = subst (λ z. is_inside_at z cs ≡ true) k s.inside;
-      not_inside = inl e;
-    }

@@ -33,11 +33,6 @@ other_place i k y n =
     let e : (if i == k then pos 1 else pos 0) ≡ pos 0 = grind (arith, nat_tests) in
     rw e (ring (env (y ∷ [])) (times (num (pos 0)) (var 0)) (num (pos 0)) refl)
 
-factor_in : (d : ℕ) (a y : ℤ) (g : Vector) → a *ℤ sum_to d (λ l. g l *ℤ y) ≡ sum_to d (λ l. a *ℤ g l *ℤ y)
-factor_in d a y g =
-    sym (sum_scale d a (λ l. g l *ℤ y))
-    ∙ sum_same d (λ l. a *ℤ (g l *ℤ y)) (λ l. a *ℤ g l *ℤ y) (λ l b. ring (env (a ∷ g l ∷ y ∷ [])) (times (var 0) (times (var 1) (var 2))) (times (times (var 0) (var 1)) (var 2)) refl)
-
 -- a place of a trajectory is a row of the power times its start
 trajectory_power : (d : ℕ) (M : Matrix) (v : Vector) (k i : ℕ) → i < d → trajectory d M v k i ≡ dot d (matrix_power d M k i) v
 trajectory_power d M v zero i b =

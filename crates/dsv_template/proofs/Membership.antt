@@ -4,7 +4,7 @@ use Rattle.std.specs.Prelude.{◌+ℤ◌, ◌*ℤ◌, ◌≤ℤ◌, neg_ℤ}
 use Rattle.std.specs.Int.RustNames.{unsigned_abs}
 use Rattle.std.specs.List.{All, list_all}
 use Rattle.std.proofs.Math.IntN.{ℤ, pos, negsuc}
-use Rattle.std.proofs.lemmas.Bool.{leb-true, eqb-true}
+use Rattle.std.proofs.lemmas.Bool.{leb-true}
 use Rattle.std.proofs.lemmas.Int.{ints, unsigned_abs-mul, fits_signed_from_abs, to_z-of_z, by_lt_z}
 use Rattle.std.proofs.lemmas.Nat.{mul-le}
 use Rattle.std.proofs.lemmas.List.{drop_more}
@@ -58,17 +58,6 @@ combination-drop cs rs i h k = ap₂ combination (drop_more cs i (pos 0) h) (dro
 both : (a b : Bool) → (a && b) ≡ true → (a ≡ true) × (b ≡ true)
 both true b h = (refl, h)
 both false b h = absurd cc
-
--- what a fit inequality's numbers are
-pub record IsFit (registers : ℕ) (i : Inequality) : Type 0 where
-  pub many : length i.coefficients.items ≡ registers
-  pub small : list_all is_small i.coefficients.items ≡ true
-
-pub fit_parts : (n : ℕ) (i : Inequality) → is_fit_for n i ≡ true → IsFit n i
-fit_parts n i h =
-    let first = both _ _ h in
-    let second = both _ _ first.0 in
-    record { many = eqb-true (length i.coefficients.items) n second.0; small = second.1 }
 
 -- what a shaped candidate's numbers are
 pub record IsShaped (registers : ℕ) (c : Candidate) : Type 0 where

@@ -108,12 +108,6 @@ same_residue p z m n s t a b =
 residue_is : (w : ℕ) (z : ℤ) (m : ℕ) → Differs (2 ^ w) z m → m < 2 ^ w → residue w z ≡ m
 residue_is w z m s b = same_residue (2 ^ w) z (residue w z) m (residue_differs w z) s (residue_fits w z) b
 
--- a number that differs by a multiple may stand for it
-differs_through : (p : ℕ) (z : ℤ) (m n : ℕ) → Differs p z m → Differs p (pos m) n → Differs p z n
-differs_through p z m n s t =
-    let y = t.is.is in
-    record { k = s.k + t.k; l = s.l + t.l; is = moved z (m + s.k * p) (s.l * p) _ _ s.is (omega arith) }
-
 add_differs : (p : ℕ) (a b : ℤ) (m n : ℕ) → Differs p a m → Differs p b n → Differs p (a +ℤ b) ((m + n) % p)
 add_differs p a b m n s t =
     let d = div-add-mod' (m + n) p in
@@ -280,13 +274,6 @@ complement-bit b = ap (λ (m : ℕ). record { width = 1; number = m }) (not_numb
 pub choice-bit : (c : Bool) (a b : Word) → choice_of (bit_of c) a b ≡ cond c a b
 choice-bit true a b = refl
 choice-bit false a b = refl
-
--- a word of one bit says a truth
-pub one_bit_truth : (m : ℕ) → m < 2 ^ 1 → (b : Bool) × (record { width = 1; number = m } ≡ bit_of b)
-one_bit_truth m h = elim (cases_lt m 1) [
-  | inl l ↦ (false, ap (λ (k : ℕ). record { width = 1; number = k }) (omega arith))
-  | inr l ↦ (true, ap (λ (k : ℕ). record { width = 1; number = k }) (omega arith))
-]
 
 -- ---- constants and shifts
 pub residue-small : (w m : ℕ) → m < 2 ^ w → residue w (pos m) ≡ m
