@@ -1,15 +1,16 @@
 -- What is found of a polynomial by its table.
-use Rattle.std.proofs.Common.{◌≡◌, ◌-◌, ◌<◌, List, length, Option, sym, subst, arith}
+use Rattle.std.proofs.Common.{◌≡◌, ◌-◌, ◌<◌, ◌∙◌, List, length, Option, Some, None, ap, refl, sym, subst, arith}
 use Rattle.std.proofs.Math.IntN.{ℤ, pos}
 use lib.Signed.{◌<ℤ◌}
 use Rattle.dsv_algebra.specs.Vectors.{vector_of}
-use Rattle.dsv_table.specs.Findings.{AreBounds, IsRootOf, IsFinding}
+use Rattle.dsv_table.specs.Findings.{AreBounds, IsRootOf, IsFinding, OneFinding}
 use Rattle.dsv_table.specs.RootSize.{RootSizeView, IsRootSize}
 use Rattle.dsv_table.specs.Table.{verdict_of}
 use Rattle.dsv_table.specs.Verdicts.{IsShown}
 use Rattle.dsv_table.specs.declared.finding.RootBounds.{RootBounds}
+use Rattle.dsv_table.specs.declared.finding.TableFinding.{TableFinding}
 use Rattle.dsv_table.specs.declared.verdict.TableVerdict.{TableVerdict}
-use Rattle.dsv_table.proofs.RootSizes.{root_sizes_are_shown}
+use Rattle.dsv_table.proofs.RootSizes.{root_sizes_are_shown, one_root_size}
 use Rattle.dsv_table.proofs.Verdicts.{decides}
 
 same_bounds : (cs : List ℤ) (b : RootBounds) → 1 < length cs → pos 0 <ℤ vector_of cs 0 → IsRootSize cs (record { least = b.least; greatest = b.greatest }) → AreBounds cs b
@@ -29,8 +30,26 @@ finding_is cs poly verdict root some lead p v r =
     let d = length cs - 1 in
     record {
       some = omega (arith, some);
+      lead = lead;
       poly = p;
       verdict = v;
       shown = subst (λ x. IsShown x d (vector_of cs)) (sym v) (decides d (vector_of cs) lead);
       root = r;
     }
+
+-- ---- one finding
+one_bounds : (cs : List ℤ) (a b : RootBounds) → 1 < length cs → pos 0 <ℤ vector_of cs 0 → AreBounds cs a → AreBounds cs b → a ≡ b
+one_bounds cs a b order lead h k =
+    let bounds : RootSizeView → RootBounds = λ s. record { least = s.least; greatest = s.greatest } in
+    ap bounds (one_root_size cs (record { least = a.least; greatest = a.greatest }) (record { least = b.least; greatest = b.greatest }) order lead h.size k.size)
+
+one_root : (cs : List ℤ) (a b : Option RootBounds) → pos 0 <ℤ vector_of cs 0 → IsRootOf cs a → IsRootOf cs b → a ≡ b
+one_root cs None None lead h k = refl
+one_root cs None (Some b) lead h k = absurd (let order = k.0 in omega (arith, h, order))
+one_root cs (Some a) None lead h k = absurd (let order = h.0 in omega (arith, k, order))
+one_root cs (Some a) (Some b) lead h k = ap Some (one_bounds cs a b h.0 lead h.1 k.1)
+
+pub one_finding : OneFinding
+one_finding cs f g h k =
+    let found : List ℤ → TableVerdict → Option RootBounds → TableFinding = λ p v r. record { poly = p; verdict = v; root = r } in
+    ap (λ p. found p f.verdict f.root) (h.poly ∙ sym k.poly) ∙ ap (λ v. found g.poly v f.root) (h.verdict ∙ sym k.verdict) ∙ ap (λ r. found g.poly g.verdict r) (one_root cs f.root g.root h.lead h.root k.root)

@@ -3,6 +3,7 @@ ghost use Rattle.dsv_table.specs.SchurCohn.{AreSums, LosesASquare, KeepsAway};
 ghost use Rattle.dsv_table.specs.Verdicts.{Decides, FactorsDoNotCount};
 ghost use Rattle.dsv_table.specs.Systems.{SystemsFall, SystemsAreKeptAway};
 ghost use Rattle.dsv_table.specs.Rates.{FallsAtRate, IsKeptAwayAtRate};
+ghost use Rattle.dsv_table.specs.Findings.{OneFinding};
 ghost use Rattle.dsv_table.specs.RootSize.{OneRootSize, RootSizesAreShown};
 
 /// The law of Schur-Cohn forms, for proofs, at every order: what their entries are, that in a step
@@ -32,4 +33,9 @@ pub fn tables_decide()
 pub fn one_root_size()
     ensures one { OneRootSize }
     ensures shown { RootSizesAreShown }
+{}
+
+/// The law of findings, for proofs: that a polynomial has one. The call does nothing.
+pub fn one_finding()
+    ensures { OneFinding }
 {}

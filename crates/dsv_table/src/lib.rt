@@ -8,7 +8,7 @@ mod table;
 mod verdict;
 
 pub use finding::{RootBounds, TableFinding, finding_of};
-pub use law::{one_root_size, schur_cohn_forms_lose_a_square, tables_decide};
+pub use law::{one_finding, one_root_size, schur_cohn_forms_lose_a_square, tables_decide};
 pub use roots::{RootSize, root_size};
 pub use table::verdict_of;
 pub use verdict::TableVerdict;
