@@ -10,8 +10,17 @@ use std::fs::File;
 use std::io;
 use std::io::{ErrorKind, Read, Seek, SeekFrom, Write};
 
+/// A file that is open, of which so many bytes were read.
+#[derive(Drop)]
+struct OpenFile {
+    name: String,
+    file: File,
+    read: u64,
+}
+
 /// The files of the system. They count faults and the bytes that came, and keep the name of the
-/// last fetch that failed.
+/// last fetch that failed. The file that was read last stays open, so that one which can't be read
+/// twice, as a pipe, is read once, from its beginning on.
 #[derive(Drop)]
 pub struct OsFiles {
     rt: HostRuntime,
@@ -19,6 +28,7 @@ pub struct OsFiles {
     faults: u64,
     came: u64,
     blamed: Option<String>,
+    last: Option<OpenFile>,
 }
 
 impl OsFiles {
@@ -33,16 +43,47 @@ impl OsFiles {
             faults: 0,
             came: 0,
             blamed: None,
+            last: None,
         }
     }
 
-    /// Reads a piece of the file of this name.
-    fn read_piece(&self, name: &str, at: u64, room: &mut [u8]) -> io::Result<usize>
-        ensures { IfOk result (λ count. count ≤ length room.old) }
-    {
+    /// Opens the file of this name, whose next byte is the one at this place.
+    fn open(&self, name: &str, at: u64) -> io::Result<OpenFile> {
+        let name_kept = String::from_str(self.alloc, name)?;
         let mut file = File::open(&self.rt, name)?;
-        file.seek(SeekFrom::Start(at))?;
-        file.read(room)
+        if at > 0 {
+            file.seek(SeekFrom::Start(at))?;
+        }
+        Ok(OpenFile {
+            name: name_kept,
+            file,
+            read: at,
+        })
+    }
+
+    /// The file of this name, whose next byte is the one at this place: the file that was read
+    /// last, if it is this one and was read so far, and else one that is opened.
+    fn file_at(&mut self, name: &str, at: u64) -> io::Result<OpenFile>
+        ensures { self.new ≡ record self.old { last = self.new.last } }
+    {
+        if let Some(last) = self.last.take() {
+            if last.read == at && last.name.as_str() == name {
+                return Ok(last);
+            }
+        }
+        self.open(name, at)
+    }
+
+    /// Reads a piece of the file of this name.
+    fn read_piece(&mut self, name: &str, at: u64, room: &mut [u8]) -> io::Result<usize>
+        ensures few { IfOk result (λ count. count ≤ length room.old) }
+        ensures rest { self.new ≡ record self.old { last = self.new.last } }
+    {
+        let mut open = self.file_at(name, at)?;
+        let count = open.file.read(room)?;
+        open.read = open.read.saturating_add(count as u64);
+        self.last = Some(open);
+        Ok(count)
     }
 
     /// Counts bytes that came.

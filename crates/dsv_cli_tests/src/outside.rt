@@ -30,10 +30,11 @@ fn real_files_are_read(rt: HostRuntime) -> Result<(), Fail> {
     let mut files = OsFiles::new(rt.clone()?, rt.alloc());
     fs::write(&rt, &name, b"controller")?;
     let begins = begins_with(&mut files, &name, b"cont");
-    let ends = gives(&mut files, &name, 8, Ok(2)) && gives(&mut files, &name, 10, Ok(0));
+    let goes_on = gives(&mut files, &name, 4, Ok(4)) && gives(&mut files, &name, 8, Ok(2));
+    let ends = gives(&mut files, &name, 9, Ok(1)) && gives(&mut files, &name, 10, Ok(0));
     fs::remove_file(&rt, &name)?;
     let gone = gives(&mut files, &name, 0, Err(FetchEnd::Failed));
-    assert!(rt; begins && ends && gone);
+    assert!(rt; begins && goes_on && ends && gone);
     Ok(())
 }
 
