@@ -159,14 +159,15 @@ def first_sentence(note):
 
 # ---- the page
 
-HEADLINE = ("JobRows", "Headline", "Checking", "Searching", "Gain", "Simulating", "Cascades", "States", "Loops", "Proposers", "OneAnswer", "Completeness", "Accepted", "Exact")
+HEADLINE = ("JobRows", "Files", "Checking", "Searching", "Gain", "Simulating", "Cascades", "States", "Loops", "Proposers", "OneAnswer", "Completeness", "Accepted", "Exact")
 LONG = 30
 PAGE = (
     ("The call", "What `run` says of an answer, whatever the arguments, the files and the sink.",
      "IsDone dsv_command:request_of dsv_command/Table:Request IsAnswered Outcome IsJobRow IsDoneBy HaveTexts AreUnread HasEvidence BecomeJobWords AreWordless IsTaskDone "
-     "IsUnread CameOf FilesSeen"),
-    ("The file", "What it means that a file's bytes are a controller, and what the controller is in words.",
-     "longest_file IsControllerOf IsTextOf IsFaultOf ControllerView BecomesWords QuantisedView"),
+     "FilesSeen"),
+    ("The files", "What it means that a file is of its kind, what keeps it from that, and what a controller is in words.",
+     "FileKind IsFileOf CameOf limit_of IsText Content IsUnread NoneCame IsFaulty IsTextOf IsFaultOf IsPlantText IsStateText dsv_certfile:certificate_in "
+     "ellipsoid_in ControllerView BecomesWords QuantisedView"),
     ("Overflow, limit cycles, simulation", "What the answers on runs say, of a subject: a controller, a cascade or a state-space "
      "controller.",
      "SubjectView Behaviour behaviour_of of_controller equations_of dsv_system:rows Breaks Cycles Happens NeverHappens IsTrace IsCycle GaveUp IsTooLarge IsFormulaOf "
@@ -176,20 +177,20 @@ PAGE = (
      "IsCascade Fits CascadeView cascade_of of_cascade "
      "AreJudged IsStableSection AreTabled IsOfPoles"),
     ("State-space controllers", "What the answers on a state-space controller say.",
-     "IsStatesFileOf IsStateController StateFileView IsStateText IsStatesUnread BecomesStates StateView "
+     "StateFileView BecomesStates StateView "
      "state_space_of of_states ShowsStateFall FallsAlongStates IsStateLoss state_check IsStateFinding IsSystemFinding IsSystemPolynomial IsSystemShown IsSaid IsSaidOf"),
     ("Ellipsoids", "What the answers on ellipsoids say.",
-     "IsOffer ellipsoid_in IsUnreadOffer IsOfOffer IsOfSoughtEllipsoid ShowsEllipsoid dsv_ellipsoid:IsGood "
+     "IsOfOffer IsOfSoughtEllipsoid ShowsEllipsoid dsv_ellipsoid:IsGood "
      "dsv_ellipsoid:NeverBreaks StaysKept ellipsoid_refusal greatest_disturbance step_form dsv_ellipsoid:first_form sample_intervals"),
     ("Loops with their plants", "What the answers on the loop of a controller with its plant say, and what the check of its certificate.",
-     "IsPlantFileOf IsPlantOf IsPlantText PlantView IsPlantFault IsOfLoop dsv_loop:loop_of dsv_table:IsFinding "
+     "PlantView IsOfLoop dsv_loop:loop_of dsv_table:IsFinding "
      "dsv_table:verdict_of IsShown HasFallingForm HasKeptAwayForm AreBounds IsRootSize HasFallAtRate HasKeptAwayAtRate "
-     "IsLoopChecked IsLoopShownOf LoopHas HasFallingLoop "),
+     "LoopHas HasFallingLoop "),
     ("Stability, minimum phase, timing", "What the answers on polynomials and on time say.",
      "tested_of ShowsFall StrictlyFallsAlong StrictlyFalls ShowsKeptAway IsKeptAwayAlong IsKeptAway "
      "ShowsNoForm closed_form_of jury_of IsJuryShown ShowsTable IsTimingOf IsOnTime"),
     ("Certificates, generated controllers", "What a check says, and what a tally says.",
-     "longest_certificate IsCheckOfRow IsCheckedBy IsOfCheck IsChecked IsShownOf IsNearOf ShowsError stop_of_check IsOfGeneration "
+     "IsCheckOfRow IsCheckedBy IsOfCheck ChecksTo IsChecked IsFoundOf dsv_certcheck:found_of IsShownOf Shows IsNearOf ShowsError stop_of_check IsOfGeneration "
      "IsGeneratedFrom"),
     ("What is written, and what stays", "The output, the status, and the files afterwards.",
      "IsWritten dsv_report:output_of answer_text stop_text IfWhole IsTyped AreKept"),

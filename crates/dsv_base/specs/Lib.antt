@@ -3,6 +3,7 @@ pub mod Counts
 pub mod FetchEnds
 pub mod FilesView
 pub mod Held
+pub mod Lists
 pub mod Reading
 pub mod Seen
 pub mod SinkState

@@ -1,5 +1,5 @@
 -- The coefficients of a certificate beside a polynomial's, place by place.
-use Rattle.std.proofs.Common.{◌≡◌, ◌∙◌, ap, sym, ℕ, zero, suc, ◌+◌, ◌<◌, ◌≤◌, true, false, List, [], ◌∷◌, length, drop, get_or, Ok, if◌then◌else◌, refl, arith}
+use Rattle.std.proofs.Common.{◌≡◌, ◌∙◌, ap, sym, ℕ, zero, suc, ◌+◌, ◌<◌, true, false, List, [], ◌∷◌, length, drop, get_or, if◌then◌else◌, arith}
 use Rattle.std.proofs.Math.IntN.{ℤ, pos}
 use Rattle.std.specs.Ordering.{int_eq}
 use Rattle.dsv_certfile.specs.declared.fault.CheckFault.TheVariants as fault
@@ -37,12 +37,3 @@ pub other_place : (line : ℕ) (cs xs : List ℤ) (i : ℕ) → i < length cs �
 other_place line cs xs i h k e =
     place_step line cs xs i h k
     ∙ ap (λ b. if b then coefficients_check (line + suc i) (drop (suc i) cs) (drop (suc i) xs) else refused (line + i) fault.Table) e
-
-none_left : (line : ℕ) (cs xs : List ℤ) (i : ℕ) → length cs ≤ i → coefficients_check line (drop i cs) xs ≡ Ok tt
-none_left line [] xs zero h = refl
-none_left line [] xs (suc i) h = refl
-none_left line (c ∷ cs) xs zero h = absurd (omega (arith, h))
-none_left line (c ∷ cs) xs (suc i) h = none_left line cs xs i (omega (arith, h))
-
-pub all_places : (line : ℕ) (cs xs : List ℤ) (i : ℕ) → length cs ≤ i → coefficients_check (line + i) (drop i cs) (drop i xs) ≡ Ok tt
-all_places line cs xs i h = none_left (line + i) cs (drop i xs) i h

@@ -1,10 +1,9 @@
 pub mod CheckLemmas
 pub mod Coefficients
+pub mod Formats
 pub mod LoopLemmas
-pub mod LoopRefusals
 pub mod Misfits
 pub mod Nearness
 pub mod Passing
 pub mod TableLemmas
 pub mod WordsFound
-pub mod Formats

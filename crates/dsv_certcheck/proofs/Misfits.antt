@@ -18,7 +18,7 @@ use Rattle.dsv_certfile.specs.declared.job.Size.{Size}
 use Rattle.dsv_certfile.specs.declared.job.Size.TheVariants as size
 use Rattle.dsv_certcheck.specs.Checks.{misfit, hints_check, invariant_check, gain_check, falls_check, roots_table_check}
 use Rattle.dsv_certcheck.specs.LoopChecks.{loop_check}
-use Rattle.dsv_certcheck.specs.Misfits.{LoopsMisfitAlone, OthersMisfitLoops}
+use Rattle.dsv_certcheck.specs.Laws.{LoopsMisfitAlone, OthersMisfitLoops}
 
 -- ---- where no plant stands beside the controller
 hints_of_loop : (w : CertWords) (q : QuantisedView) (p : Property) (log : List Step) → hints_check w q p size.OfLoop log ≡ misfit w

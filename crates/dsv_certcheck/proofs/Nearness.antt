@@ -10,7 +10,8 @@ use Rattle.dsv_gain.specs.declared.outlook.Outlook.TheVariants as outlook
 use Rattle.dsv_gain.proofs.Near.{always_near}
 use Rattle.dsv_gain.specs.declared.roundoff.ShownError.{ShownError}
 use Rattle.dsv_certcheck.specs.Checks.{Checked, Finds, as_checked}
-use Rattle.dsv_certcheck.specs.Shown.{ShowsNear}
+use Rattle.dsv_certcheck.specs.Shown.{ShowsNear, StaysAsOffered}
+use Rattle.dsv_certfile.specs.declared.certificate.Certificate.{Certificate}
 use Rattle.dsv_certcheck.specs.ShownErrors.{StaysShown, without_error}
 use Rattle.dsv_certcheck.specs.declared.check_refusal.CheckRefusal.{CheckRefusal}
 use Rattle.dsv_gain.specs.Subjects.{HoldsAlways}
@@ -49,3 +50,7 @@ shown_without P (Err why) h = tt
 pub none_without : (q : QuantisedView) (found : Checked) → IfOk (without_error found) (ShowsNear q None)
 none_without q (Ok x) = tt
 none_without q (Err why) = tt
+
+pub near_without : (q : QuantisedView) (cert : Certificate) (found : Checked) → OnOk found (StaysAsOffered q cert None) → IfOk (without_error found) (StaysAsOffered q cert)
+near_without q cert (Ok x) h = h
+near_without q cert (Err why) h = tt

@@ -1,4 +1,4 @@
--- What is found of words isn't that there are none.
+-- What is found of words: never that their format is another or that there are none, and that there is no loop only beside a plant.
 use Rattle.std.proofs.Common.{ℕ, Bool, true, false, List, [], ◌∷◌, Option, Some, None, Result, Ok, Err}
 use Rattle.std.specs.Prelude.{if◌then◌else◌, suc, nat_le, nat_lt, ◌+◌, ◌==◌, ◌&&◌, length}
 use Rattle.std.specs.Ordering.{int_eq}
@@ -6,7 +6,10 @@ use Rattle.std.proofs.Math.IntN.{ℤ}
 use Rattle.dsv_text.specs.Stages.{◌>>=◌}
 use Rattle.dsv_names.specs.declared.property.Property.{Property}
 use Rattle.dsv_names.specs.declared.property.Property.TheVariants as property
+use Rattle.dsv_names.specs.declared.property.RootProperty.TheVariants as root
 use Rattle.dsv_names.specs.declared.property.RunProperty.TheVariants as run
+use Rattle.dsv_fraction.specs.Ratio.{Ratio}
+use Rattle.dsv_reader.specs.Plants.{PlantView}
 use Rattle.dsv_quantiser.specs.QuantisedView.{QuantisedView}
 use Rattle.dsv_meaning.specs.Equations.{order, registers_of}
 use Rattle.dsv_cnf.specs.FormulaView.{FormulaView}
@@ -42,120 +45,148 @@ use Rattle.dsv_certfile.specs.declared.job.CertWords.{CertWords}
 use Rattle.dsv_certfile.specs.declared.job.Size.{Size}
 use Rattle.dsv_certfile.specs.declared.job.Size.TheVariants as size
 use Rattle.dsv_certcheck.specs.Checks.{Checked, refused, misfit, size_check, verdict_at, log_check, run_check, is_some_samples, hints_check, sentences_check, shape_check, set_check, invariant_check, shown_check, error_check, outlook_check, depth_check, gain_check, refusal_check, offer_check, tested_check, falls_check, coefficients_check, verdict_check, table_check, tested_table_check, roots_table_check, words_check}
+use Rattle.dsv_certcheck.specs.Found.{found_of}
 use Rattle.dsv_certcheck.specs.LineNumbers.{body_line}
+use Rattle.dsv_certcheck.specs.LoopChecks.{polynomial_check, loop_check, words_loop_check}
+use Rattle.dsv_loop.specs.Loops.{loop_of}
+use Rattle.dsv_loop.specs.declared.refusal.LoopRefusal.{LoopRefusal}
 use Rattle.dsv_bounded.specs.RunQuestions.{job_size_of}
 use Rattle.dsv_gain.specs.Subjects.{outlook_of}
 use Rattle.dsv_realise.specs.Controllers.{of_controller}
 use Rattle.dsv_certcheck.specs.declared.check_refusal.CheckRefusal.TheVariants as refusal
 
--- it isn't found that there are no words
-abbrev pub HasWords : Checked → Type 0
-HasWords (Ok x) = Unit {0}
-HasWords (Err (refusal.Quant why)) = ⊥
-HasWords (Err other) = Unit {0}
+-- a plant stands beside the controller
+abbrev pub IsBeside : Option PlantView → Type 0
+IsBeside None = ⊥
+IsBeside (Some plant) = Unit {0}
+
+-- what words may be refused for
+abbrev pub IsOfWords : Option PlantView → Checked → Type 0
+IsOfWords plant (Err (refusal.Line line fault.Format)) = ⊥
+IsOfWords plant (Err (refusal.Quant why)) = ⊥
+IsOfWords plant (Err (refusal.Loop why)) = IsBeside plant
+IsOfWords plant found = Unit {0}
 
 -- ---- stages
-pub has_then : (r : Checked) (f : Unit {0} → Checked) → HasWords r → ((x : Unit {0}) → HasWords (f x)) → HasWords (r >>= f)
-has_then (Ok x) f h g = g x
-has_then (Err e) f h g = h
+has_then : (plant : Option PlantView) (r : Checked) (f : Unit {0} → Checked) → IsOfWords plant r → ((x : Unit {0}) → IsOfWords plant (f x)) → IsOfWords plant (r >>= f)
+has_then plant (Ok x) f h g = g x
+has_then plant (Err e) f h g = h
 
-pub has_either : (b : Bool) (x y : Checked) → HasWords x → HasWords y → HasWords (if b then x else y)
-has_either true x y h k = h
-has_either false x y h k = k
+has_either : (plant : Option PlantView) (b : Bool) (x y : Checked) → IsOfWords plant x → IsOfWords plant y → IsOfWords plant (if b then x else y)
+has_either plant true x y h k = h
+has_either plant false x y h k = k
 
-has_size : (q : QuantisedView) (samples : ℕ) → HasWords (size_check q samples)
-has_size q samples = has_either (nat_lt most_size (job_size_of (of_controller q) samples)) (Err (refusal.JobSize (job_size_of (of_controller q) samples))) (Ok tt) tt tt
+has_size : (plant : Option PlantView) (q : QuantisedView) (samples : ℕ) → IsOfWords plant (size_check q samples)
+has_size plant q samples = has_either plant (nat_lt most_size (job_size_of (of_controller q) samples)) (Err (refusal.JobSize (job_size_of (of_controller q) samples))) (Ok tt) tt tt
 
-has_verdict : (line : ℕ) (v : Verdict) → HasWords (verdict_at line v)
-has_verdict line verdict.Accepted = tt
-has_verdict line (verdict.Refused step why) = tt
+has_verdict : (plant : Option PlantView) (line : ℕ) (v : Verdict) → IsOfWords plant (verdict_at line v)
+has_verdict plant line verdict.Accepted = tt
+has_verdict plant line (verdict.Refused step why) = tt
 
-has_log : (f : FormulaView) (line : ℕ) (log : List Step) → HasWords (log_check f line log)
-has_log f line log = has_verdict line (verdict_of f log)
+has_log : (plant : Option PlantView) (f : FormulaView) (line : ℕ) (log : List Step) → IsOfWords plant (log_check f line log)
+has_log plant f line log = has_verdict plant line (verdict_of f log)
 
 -- ---- kinds
-has_hints : (w : CertWords) (q : QuantisedView) (p : Property) (s : Size) (log : List Step) → HasWords (hints_check w q p s log)
-has_hints w q (property.OfRuns p) (size.Samples k) log =
-    has_either (is_some_samples k) (run_check w q p k log) (misfit w) (has_then (size_check q k) _ (has_size q k) (λ x. has_log _ _ log)) tt
-has_hints w q p s log = tt
+has_hints : (plant : Option PlantView) (w : CertWords) (q : QuantisedView) (p : Property) (s : Size) (log : List Step) → IsOfWords plant (hints_check w q p s log)
+has_hints plant w q (property.OfRuns p) (size.Samples k) log =
+    has_either plant (is_some_samples k) (run_check w q p k log) (misfit w) (has_then plant (size_check q k) _ (has_size plant q k) (λ x. has_log plant _ _ log)) tt
+has_hints plant w q p s log = tt
 
-has_sentences : (w : CertWords) (q : QuantisedView) (c : Candidate) (logs : ThreeLogs) → HasWords (sentences_check w q c logs)
-has_sentences w q c logs = has_then _ _ (has_log _ _ logs.base) (λ x. has_then _ _ (has_log _ _ logs.step) (λ y. has_log _ _ logs.safe))
+has_sentences : (plant : Option PlantView) (w : CertWords) (q : QuantisedView) (c : Candidate) (logs : ThreeLogs) → IsOfWords plant (sentences_check w q c logs)
+has_sentences plant w q c logs = has_then plant _ _ (has_log plant _ _ logs.base) (λ x. has_then plant _ _ (has_log plant _ _ logs.step) (λ y. has_log plant _ _ logs.safe))
 
-has_set : (w : CertWords) (q : QuantisedView) (c : Candidate) (logs : ThreeLogs) → HasWords (set_check w q c logs)
-has_set w q c logs =
-    has_then _ _ (has_size q _) (λ x. has_then (shape_check w q c) _
-    (has_either (is_shaped (registers_of q.realisation (order q)) c) (Ok tt) (misfit w) tt tt) (λ y. has_sentences w q c logs))
+has_set : (plant : Option PlantView) (w : CertWords) (q : QuantisedView) (c : Candidate) (logs : ThreeLogs) → IsOfWords plant (set_check w q c logs)
+has_set plant w q c logs =
+    has_then plant _ _ (has_size plant q _) (λ x. has_then plant (shape_check w q c) _
+    (has_either plant (is_shaped (registers_of q.realisation (order q)) c) (Ok tt) (misfit w) tt tt) (λ y. has_sentences plant w q c logs))
 
-has_invariant : (w : CertWords) (q : QuantisedView) (p : Property) (s : Size) (c : Candidate) (logs : ThreeLogs) → HasWords (invariant_check w q p s c logs)
-has_invariant w q (property.OfRuns run.Overflow) size.Unbounded c logs = has_set w q c logs
-has_invariant w q p s c logs = tt
+has_invariant : (plant : Option PlantView) (w : CertWords) (q : QuantisedView) (p : Property) (s : Size) (c : Candidate) (logs : ThreeLogs) → IsOfWords plant (invariant_check w q p s c logs)
+has_invariant plant w q (property.OfRuns run.Overflow) size.Unbounded c logs = has_set plant w q c logs
+has_invariant plant w q p s c logs = tt
 
-has_refusal : (w : CertWords) (offer : Falls) (r : Option FormRefusal) → HasWords (refusal_check w offer r)
-has_refusal w offer None = tt
-has_refusal w offer (Some why) = tt
+has_refusal : (plant : Option PlantView) (w : CertWords) (offer : Falls) (r : Option FormRefusal) → IsOfWords plant (refusal_check w offer r)
+has_refusal plant w offer None = tt
+has_refusal plant w offer (Some why) = tt
 
-has_offer : (w : CertWords) (c : List ℤ) (offer : Falls) → HasWords (offer_check w c offer)
-has_offer w c offer =
-    has_either (offer.form.d + 1 == length c) (refusal_check w offer (falls_refusal c offer)) (misfit w) (has_refusal w offer (falls_refusal c offer)) tt
+has_offer : (plant : Option PlantView) (w : CertWords) (c : List ℤ) (offer : Falls) → IsOfWords plant (offer_check w c offer)
+has_offer plant w c offer =
+    has_either plant (offer.form.d + 1 == length c) (refusal_check w offer (falls_refusal c offer)) (misfit w) (has_refusal plant w offer (falls_refusal c offer)) tt
 
-has_tested : (w : CertWords) (r : Result Tested PolyWide) (offer : Falls) → HasWords (tested_check w r offer)
-has_tested w (Ok (tested.Poly c)) offer = has_offer w c offer
-has_tested w (Ok tested.NoZeros) offer = tt
-has_tested w (Err wide) offer = tt
+has_tested : (plant : Option PlantView) (w : CertWords) (r : Result Tested PolyWide) (offer : Falls) → IsOfWords plant (tested_check w r offer)
+has_tested plant w (Ok (tested.Poly c)) offer = has_offer plant w c offer
+has_tested plant w (Ok tested.NoZeros) offer = tt
+has_tested plant w (Err wide) offer = tt
 
-has_falls : (w : CertWords) (q : QuantisedView) (p : Property) (s : Size) (offer : Falls) → HasWords (falls_check w q p s offer)
-has_falls w q (property.OfRoots p) size.NoSize offer = has_tested w (tested_of q (side_of p)) offer
-has_falls w q p s offer = tt
+has_falls : (plant : Option PlantView) (w : CertWords) (q : QuantisedView) (p : Property) (s : Size) (offer : Falls) → IsOfWords plant (falls_check w q p s offer)
+has_falls plant w q (property.OfRoots p) size.NoSize offer = has_tested plant w (tested_of q (side_of p)) offer
+has_falls plant w q p s offer = tt
 
-has_shown : (w : CertWords) (o : Option Range) → HasWords (shown_check w o)
-has_shown w (Some r) = tt
-has_shown w None = tt
+has_shown : (plant : Option PlantView) (w : CertWords) (o : Option Range) → IsOfWords plant (shown_check w o)
+has_shown plant w (Some r) = tt
+has_shown plant w None = tt
 
-has_error : (w : CertWords) (q : QuantisedView) (offer : Option RoundoffOffer) → HasWords (error_check w q offer)
-has_error w q None = tt
-has_error w q (Some offer) = has_shown w (error_of (net_of q) offer)
+has_error : (plant : Option PlantView) (w : CertWords) (q : QuantisedView) (offer : Option RoundoffOffer) → IsOfWords plant (error_check w q offer)
+has_error plant w q None = tt
+has_error plant w q (Some offer) = has_shown plant w (error_of (net_of q) offer)
 
-has_outlook : (w : CertWords) (rest : Checked) (found : Outlook) → HasWords rest → HasWords (outlook_check w rest found)
-has_outlook w rest (outlook.Safe gain) h = h
-has_outlook w rest (outlook.Leaves sample value) h = tt
-has_outlook w rest outlook.Deep h = tt
+has_outlook : (plant : Option PlantView) (w : CertWords) (rest : Checked) (found : Outlook) → IsOfWords plant rest → IsOfWords plant (outlook_check w rest found)
+has_outlook plant w rest (outlook.Safe gain) h = h
+has_outlook plant w rest (outlook.Leaves sample value) h = tt
+has_outlook plant w rest outlook.Deep h = tt
 
-has_gain : (w : CertWords) (q : QuantisedView) (p : Property) (s : Size) (depth : ℕ) (offer : Option RoundoffOffer) → HasWords (gain_check w q p s depth offer)
-has_gain w q (property.OfRuns run.Overflow) size.Unbounded depth offer =
-    has_either (nat_le depth most_gain_depth) (depth_check w q depth offer) (misfit w)
-    (has_outlook w (error_check w q offer) (outlook_of (of_controller q) (suc depth)) (has_error w q offer)) tt
-has_gain w q p s depth offer = tt
+has_gain : (plant : Option PlantView) (w : CertWords) (q : QuantisedView) (p : Property) (s : Size) (depth : ℕ) (offer : Option RoundoffOffer) → IsOfWords plant (gain_check w q p s depth offer)
+has_gain plant w q (property.OfRuns run.Overflow) size.Unbounded depth offer =
+    has_either plant (nat_le depth most_gain_depth) (depth_check w q depth offer) (misfit w)
+    (has_outlook plant w (error_check w q offer) (outlook_of (of_controller q) (suc depth)) (has_error plant w q offer)) tt
+has_gain plant w q p s depth offer = tt
 
-has_coefficients : (line : ℕ) (cs xs : List ℤ) → HasWords (coefficients_check line cs xs)
-has_coefficients line [] xs = tt
-has_coefficients line (c ∷ cs) [] = tt
-has_coefficients line (c ∷ cs) (x ∷ xs) = has_either (int_eq c x) (coefficients_check (suc line) cs xs) (refused line fault.Table) (has_coefficients (suc line) cs xs) tt
+has_coefficients : (plant : Option PlantView) (line : ℕ) (cs xs : List ℤ) → IsOfWords plant (coefficients_check line cs xs)
+has_coefficients plant line [] xs = tt
+has_coefficients plant line (c ∷ cs) [] = tt
+has_coefficients plant line (c ∷ cs) (x ∷ xs) = has_either plant (int_eq c x) (coefficients_check (suc line) cs xs) (refused line fault.Table) (has_coefficients plant (suc line) cs xs) tt
 
-has_table_verdict : (w : CertWords) (v : TableVerdict) → HasWords (verdict_check w v)
-has_table_verdict w table.Inside = tt
-has_table_verdict w (table.NotInside row) = tt
+has_table_verdict : (plant : Option PlantView) (w : CertWords) (v : TableVerdict) → IsOfWords plant (verdict_check w v)
+has_table_verdict plant w table.Inside = tt
+has_table_verdict plant w (table.NotInside row) = tt
 
-pub has_table : (w : CertWords) (c coefficients : List ℤ) → HasWords (table_check w c coefficients)
-has_table w c coefficients =
+has_table : (plant : Option PlantView) (w : CertWords) (c coefficients : List ℤ) → IsOfWords plant (table_check w c coefficients)
+has_table plant w c coefficients =
     let line = body_line w in
-    has_either (length coefficients == length c && nat_le (length coefficients) most_coefficients)
+    has_either plant (length coefficients == length c && nat_le (length coefficients) most_coefficients)
     (coefficients_check line coefficients c >>= λ x. verdict_check w (tables.verdict_of c)) (misfit w)
-    (has_then (coefficients_check line coefficients c) (λ x. verdict_check w (tables.verdict_of c)) (has_coefficients line coefficients c) (λ x. has_table_verdict w (tables.verdict_of c))) tt
+    (has_then plant (coefficients_check line coefficients c) (λ x. verdict_check w (tables.verdict_of c)) (has_coefficients plant line coefficients c) (λ x. has_table_verdict plant w (tables.verdict_of c))) tt
 
-has_tested_table : (w : CertWords) (r : Result Tested PolyWide) (coefficients : List ℤ) → HasWords (tested_table_check w r coefficients)
-has_tested_table w (Ok (tested.Poly c)) coefficients = has_table w c coefficients
-has_tested_table w (Ok tested.NoZeros) coefficients = tt
-has_tested_table w (Err wide) coefficients = tt
+has_tested_table : (plant : Option PlantView) (w : CertWords) (r : Result Tested PolyWide) (coefficients : List ℤ) → IsOfWords plant (tested_table_check w r coefficients)
+has_tested_table plant w (Ok (tested.Poly c)) coefficients = has_table plant w c coefficients
+has_tested_table plant w (Ok tested.NoZeros) coefficients = tt
+has_tested_table plant w (Err wide) coefficients = tt
 
-has_roots_table : (w : CertWords) (q : QuantisedView) (p : Property) (s : Size) (coefficients : List ℤ) → HasWords (roots_table_check w q p s coefficients)
-has_roots_table w q (property.OfRoots p) size.NoSize coefficients = has_tested_table w (tested_of q (side_of p)) coefficients
-has_roots_table w q p s coefficients = tt
+has_roots_table : (plant : Option PlantView) (w : CertWords) (q : QuantisedView) (p : Property) (s : Size) (coefficients : List ℤ) → IsOfWords plant (roots_table_check w q p s coefficients)
+has_roots_table plant w q (property.OfRoots p) size.NoSize coefficients = has_tested_table plant w (tested_of q (side_of p)) coefficients
+has_roots_table plant w q p s coefficients = tt
 
 -- ---- certificates
-pub has_words : (q : QuantisedView) (c : Certificate) → HasWords (words_check q c)
-has_words q (certificate.Hints job log) = has_hints job.words q job.property job.size log
-has_words q (certificate.Invariant job candidate logs) = has_invariant job.words q job.property job.size candidate logs
-has_words q (certificate.Gain job depth offer) = has_gain job.words q job.property job.size depth offer
-has_words q (certificate.Falls job offer) = has_falls job.words q job.property job.size offer
-has_words q (certificate.Table job coefficients) = has_roots_table job.words q job.property job.size coefficients
+has_words : (plant : Option PlantView) (q : QuantisedView) (c : Certificate) → IsOfWords plant (words_check q c)
+has_words plant q (certificate.Hints job log) = has_hints plant job.words q job.property job.size log
+has_words plant q (certificate.Invariant job candidate logs) = has_invariant plant job.words q job.property job.size candidate logs
+has_words plant q (certificate.Gain job depth offer) = has_gain plant job.words q job.property job.size depth offer
+has_words plant q (certificate.Falls job offer) = has_falls plant job.words q job.property job.size offer
+has_words plant q (certificate.Table job coefficients) = has_roots_table plant job.words q job.property job.size coefficients
+
+-- ---- beside a plant
+has_polynomial : (p : PlantView) (w : CertWords) (r : Result (List ℤ) LoopRefusal) (coefficients : List ℤ) → IsOfWords (Some p) (polynomial_check w r coefficients)
+has_polynomial p w (Ok c) coefficients = has_table (Some p) w c coefficients
+has_polynomial p w (Err why) coefficients = tt
+
+has_loop : (w : CertWords) (q : QuantisedView) (time : Ratio) (plant : PlantView) (p : Property) (s : Size) (offer : List ℤ) → IsOfWords (Some plant) (loop_check w q time plant p s offer)
+has_loop w q time plant (property.OfRoots root.Stability) size.OfLoop offer = has_polynomial plant w (loop_of (q ∷ []) time plant) offer
+has_loop w q time plant p s offer = tt
+
+has_loop_words : (q : QuantisedView) (time : Ratio) (plant : PlantView) (c : Certificate) → IsOfWords (Some plant) (words_loop_check q time plant c)
+has_loop_words q time plant (certificate.Table job coefficients) = has_loop job.words q time plant job.property job.size coefficients
+has_loop_words q time plant other = tt
+
+-- ---- alone or beside one
+pub found_has : (q : QuantisedView) (time : Ratio) (plant : Option PlantView) (c : Certificate) → IsOfWords plant (found_of q time plant c)
+found_has q time None c = has_words None q c
+found_has q time (Some plant) c = has_loop_words q time plant c

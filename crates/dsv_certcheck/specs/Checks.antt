@@ -1,5 +1,5 @@
--- What the check of a certificate finds for a controller: nothing, or the first line whose claim
--- isn't so, or why there is nothing to check it against.
+-- What the check of a certificate finds for a controller's words: nothing, or the first line whose
+-- claim isn't so, or why there is nothing to check it against.
 use Rattle.std.specs.Prelude.{◌≡◌, ℕ, suc, ◌+◌, ◌==◌, ◌&&◌, nat_le, nat_lt, Bool, List, ◌∷◌}
 use Rattle.std.specs.Prelude.{length, Option, Some, None, Result, Ok, Err, if◌then◌else◌, ℤ}
 use Rattle.std.specs.Ordering.{int_eq}
@@ -10,8 +10,6 @@ use Rattle.dsv_names.specs.declared.property.RunProperty.{RunProperty}
 use Rattle.dsv_names.specs.declared.property.RunProperty.TheVariants as run
 use Rattle.dsv_reader.specs.Controllers.{ControllerView}
 use Rattle.dsv_quantiser.specs.QuantisedView.{QuantisedView}
-use Rattle.dsv_quantiser.specs.Modes.{BecomesWords}
-use Rattle.dsv_quantiser.specs.declared.refusal.QuantRefusal.{QuantRefusal}
 use Rattle.dsv_meaning.specs.Equations.{order, registers_of}
 use Rattle.dsv_cnf.specs.FormulaView.{FormulaView}
 use Rattle.dsv_hints.specs.Derivation.{verdict_of}
@@ -47,7 +45,6 @@ use Rattle.dsv_certcheck.specs.LineNumbers.{version_line_number, format_line_num
 use Rattle.dsv_certcheck.specs.LineNumbers.{kind_line, body_line, log_line}
 use Rattle.dsv_certfile.specs.Limits.{most_samples, most_gain_depth, most_coefficients}
 use Rattle.dsv_certfile.specs.Limits.{narrow_word_bits}
-use Rattle.dsv_certfile.specs.Texts.{job_of}
 use Rattle.dsv_certfile.specs.declared.certificate.Certificate.{Certificate}
 use Rattle.dsv_certfile.specs.declared.certificate.Certificate.TheVariants as certificate
 use Rattle.dsv_certfile.specs.declared.fault.CheckFault.{CheckFault}
@@ -56,7 +53,6 @@ use Rattle.dsv_certcheck.specs.declared.check_refusal.CheckRefusal.{CheckRefusal
 use Rattle.dsv_certcheck.specs.declared.check_refusal.CheckRefusal.TheVariants as refusal
 use Rattle.dsv_certfile.specs.declared.job.CertWords.{CertWords}
 use Rattle.dsv_certfile.specs.declared.job.CertWords.TheVariants as words
-use Rattle.dsv_certfile.specs.declared.job.CertifiedJob.{CertifiedJob}
 use Rattle.dsv_certfile.specs.declared.job.Size.{Size}
 use Rattle.dsv_gain.specs.Subjects.{outlook_of}
 use Rattle.dsv_realise.specs.Controllers.{of_controller}
@@ -242,32 +238,7 @@ words_check q (certificate.Falls job offer) = falls_check job.words q job.proper
 words_check q (certificate.Table job coefficients) =
     roots_table_check job.words q job.property job.size coefficients
 
--- in the job's realisation and modes the controller becomes these words, or is refused so
-abbrev pub BecomesFor : ControllerView → CertifiedJob → Result QuantisedView QuantRefusal → Type 0
-BecomesFor c job outcome = BecomesWords c job.design outcome
-
--- This is found of the words that the controller becomes.
-pub record IsFoundOf (c : ControllerView) (cert : Certificate) (found : Checked) : Type 0 where
-  pub quantised : QuantisedView
-  pub becomes : BecomesFor c (job_of cert) (Ok quantised)
-  pub checked : words_check quantised cert ≡ found
-
 -- the result is what is found, or there was no memory
 abbrev pub Finds : Checked → Checked → Type 0
 Finds (Err refusal.NoMemory) meant = Unit {0}
 Finds found meant = meant ≡ found
-
--- what is found for a controller whose words have the certificate's format
-abbrev pub IsFoundFor : ControllerView → Certificate → Checked → Type 0
-IsFoundFor c cert (Err refusal.NoMemory) = Unit {0}
-IsFoundFor c cert (Err (refusal.Quant why)) = BecomesFor c (job_of cert) (Err why)
-IsFoundFor c cert found = IsFoundOf c cert found
-
--- what is found after the format: its refusal, or what is found where it passes
-abbrev pub IsFoundAfter : Checked → ControllerView → Certificate → Checked → Type 0
-IsFoundAfter (Ok x) c cert found = IsFoundFor c cert found
-IsFoundAfter (Err why) c cert found = found ≡ Err why
-
--- what is found for a controller: the format is checked before all else
-abbrev pub IsChecked : ControllerView → Certificate → Checked → Type 0
-IsChecked c cert = IsFoundAfter (format_check c (job_of cert).words) c cert

@@ -1,10 +1,10 @@
 pub mod Checks
 pub mod FormLines
+pub mod Found
+pub mod Laws
 pub mod LineNumbers
 pub mod LoopChecks
-pub mod Misfits
 pub mod Refusals
 pub mod Shown
 pub mod ShownErrors
 pub mod StateChecks
-pub mod FormatRefusals

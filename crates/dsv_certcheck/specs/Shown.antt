@@ -1,11 +1,14 @@
--- What a certificate that passes its check shows of a controller.
-use Rattle.std.specs.Prelude.{◌≡◌, ◌-◌, List, length, Option, Some, None, Ok, ℤ}
+-- What a certificate that passes its check shows of a controller, alone or in a loop with a plant.
+use Rattle.std.specs.Prelude.{◌≡◌, ◌-◌, List, [], ◌∷◌, length, Option, Some, None, Ok, ℤ}
 use Rattle.dsv_algebra.specs.Vectors.{vector_of}
 use Rattle.dsv_names.specs.declared.property.Property.{Property}
 use Rattle.dsv_names.specs.declared.property.Property.TheVariants as property
 use Rattle.dsv_names.specs.declared.property.RunProperty.TheVariants as run
 use Rattle.dsv_names.specs.declared.property.RootProperty.{RootProperty}
+use Rattle.dsv_names.specs.declared.property.RootProperty.TheVariants as root
+use Rattle.dsv_fraction.specs.Ratio.{Ratio}
 use Rattle.dsv_reader.specs.Controllers.{ControllerView}
+use Rattle.dsv_reader.specs.Plants.{PlantView}
 use Rattle.dsv_quantiser.specs.QuantisedView.{QuantisedView}
 use Rattle.dsv_realise.specs.Netlists.{net_of}
 use Rattle.dsv_roundoff.specs.declared.offers.RoundoffOffer.{RoundoffOffer}
@@ -14,9 +17,10 @@ use Rattle.dsv_gain.specs.Near.{AlwaysNear}
 use Rattle.dsv_gain.specs.declared.roundoff.ShownError.{ShownError}
 use Rattle.dsv_bounded.specs.RunQuestions.{Happens}
 use Rattle.dsv_table.specs.Verdicts.{HasFallingForm}
+use Rattle.dsv_loop.specs.Loops.{loop_of}
 use Rattle.dsv_tested.specs.Tested.{side_of, tested_of}
 use Rattle.dsv_tested.specs.declared.side.Tested.TheVariants as tested
-use Rattle.dsv_certcheck.specs.Checks.{BecomesFor}
+use Rattle.dsv_certcheck.specs.Found.{BecomesFor}
 use Rattle.dsv_certfile.specs.Texts.{job_of}
 use Rattle.dsv_certfile.specs.declared.certificate.Certificate.{Certificate}
 use Rattle.dsv_certfile.specs.declared.certificate.Certificate.TheVariants as certificate
@@ -39,11 +43,28 @@ Has q (property.OfRuns run.Overflow) size.Unbounded = NeverOverflows (of_control
 Has q (property.OfRoots p) size.NoSize = HasFalling q p
 Has q p s = ⊥
 
+-- A form strictly falls along each trajectory of the loop's polynomial.
+pub record HasFallingLoop (q : QuantisedView) (time : Ratio) (plant : PlantView) : Type 0 where
+  pub poly : List ℤ
+  pub loop : loop_of (q ∷ []) time plant ≡ Ok poly
+  pub falls : HasFallingForm (length poly - 1) (vector_of poly)
+
+-- the loop with the plant has the property, which is stability
+abbrev pub LoopHas : QuantisedView → Ratio → PlantView → Property → Size → Type 0
+LoopHas q time plant (property.OfRoots root.Stability) size.OfLoop = HasFallingLoop q time plant
+LoopHas q time plant p s = ⊥
+
+-- the same of words that run with this sample time, alone or in a loop with the plant
+abbrev pub Shows : QuantisedView → Ratio → Option PlantView → Property → Size → Type 0
+Shows q time None p s = Has q p s
+Shows q time (Some plant) p s = LoopHas q time plant p s
+
 -- The words that the controller becomes have the job's property.
-pub record IsShownOf (c : ControllerView) (job : CertifiedJob) : Type 0 where
+pub record IsShownOf (c : ControllerView) (plant : Option PlantView) (job : CertifiedJob)
+    : Type 0 where
   pub quantised : QuantisedView
   pub becomes : BecomesFor c job (Ok quantised)
-  pub has : Has quantised job.property job.size
+  pub shows : Shows quantised c.sample_time plant job.property job.size
 
 -- ---- how far outputs are from those of exact runs
 -- The offer shows this range at its depth, and in every sample of every run over inputs in range,

@@ -1,12 +1,13 @@
 // The check of certificates against controllers.
-ghost use Rattle.std.specs.Prelude.{◌≡◌, ◌-◌, ◌≤◌, length, OnOk, IfOk};
+ghost use Rattle.std.specs.Prelude.{◌≡◌, ◌-◌, ◌≤◌, length, OnOk, IfOk, option_copied};
 ghost use Rattle.dsv_algebra.specs.Vectors.{vector_of};
-ghost use Rattle.dsv_certcheck.specs.Checks.{Finds, IsChecked, as_checked, format_check};
+ghost use Rattle.dsv_certcheck.specs.Checks.{Finds, as_checked, format_check};
 ghost use Rattle.dsv_certcheck.specs.Checks.{words_check};
 ghost use Rattle.dsv_certcheck.specs.Checks.{hints_check, invariant_check, error_check};
 ghost use Rattle.dsv_certcheck.specs.Checks.{depth_check, gain_check, falls_check, offer_check};
 ghost use Rattle.dsv_certcheck.specs.Checks.{roots_table_check};
-ghost use Rattle.dsv_certcheck.specs.Shown.{Has, IsShownOf};
+ghost use Rattle.dsv_certcheck.specs.Found.{found_of, IsChecked};
+ghost use Rattle.dsv_certcheck.specs.Shown.{Has, Shows, IsShownOf};
 ghost use Rattle.dsv_certcheck.specs.Shown.{ShowsNear, StaysAsOffered, IsNearOf};
 ghost use Rattle.dsv_certcheck.specs.ShownErrors.{StaysShown, without_error};
 ghost use Rattle.dsv_certfile.specs.Limits.{most_gain_depth};
@@ -18,6 +19,7 @@ ghost use Rattle.dsv_realise.specs.Controllers.{of_controller};
 use crate::check_refusal::CheckRefusal;
 use crate::checked_logs::{RunQuestion, check_run, check_set};
 use crate::line_numbers::{FORMAT_LINE, VERSION_LINE, form_line, kind_line};
+use crate::loops::{LoopSide, check_loop_words};
 use crate::tables::check_poly_table;
 use dsv_base::NoMemory;
 use dsv_certfile::{
@@ -25,12 +27,13 @@ use dsv_certfile::{
     NARROW_WORD_BITS, Size,
 };
 use dsv_forms::{Falls, Poly, check_falls};
+use dsv_fraction::Frac;
 use dsv_gain::{Outlook, ShownError, controller_error, gain};
 use dsv_hints::Log;
 use dsv_integer::Numeral;
 use dsv_names::{Property, RunProperty};
 use dsv_quantiser::{Quantised, quantise_in};
-use dsv_reader::Controller;
+use dsv_reader::{Controller, Plant};
 use dsv_realise::Asking;
 use dsv_roundoff::RoundoffOffer;
 use dsv_template::{Candidate, ThreeLogs};
@@ -39,7 +42,7 @@ use std::alloc::Global;
 
 /// Checks that a controller's words have the format that the certificate says, or where it says
 /// none, at most `NARROW_WORD_BITS` bits.
-pub(crate) fn check_format(controller: &Controller, words: CertWords) -> Result<(), CheckRefusal>
+fn check_format(controller: &Controller, words: CertWords) -> Result<(), CheckRefusal>
     ensures { result ≡ format_check controller.now words }
 {
     let int_bits = controller.int_bits();
@@ -297,37 +300,73 @@ fn check_words(
     }
 }
 
-/// Checks a certificate against a controller: the controller's words have to be of the format that
-/// the certificate says, or where it says none, of at most `NARROW_WORD_BITS` bits; then these
-/// words in the certificate's modes, and from these the formulas of its job, or the polynomial and
-/// its table, are made anew, and nothing else that the certificate says is believed. What passes
-/// has the certificate's property, whatever else is in the certificate; and if a gain has an offer
-/// beside it, the answer is how far this shows the output to be from that of exact runs. It takes
-/// memory for a formula and a log at a time, or for rows of a table.
+/// Checks a certificate for words that run with this sample time, alone or in a loop with the
+/// plant.
+#[tactic(auto, using(crate::proofs::Nearness::found_without, crate::proofs::Nearness::shown_without, crate::proofs::Nearness::near_without))]
+fn check_beside(
+    alloc: Global,
+    quantised: &Quantised,
+    sample_time: Frac,
+    plant: Option<&Plant>,
+    certificate: &Certificate,
+) -> Result<Option<ShownError>, CheckRefusal>
+    ensures found { Finds (as_checked result)
+        (found_of quantised.now sample_time (option_copied plant.entry) certificate.now) }
+    ensures shows { OnOk result (Shows quantised.now sample_time (option_copied plant.entry)
+        (job_of certificate.now).property (job_of certificate.now).size) }
+    ensures near { IfOk result (StaysAsOffered quantised.now certificate.now) }
+{
+    match plant {
+        None => check_words(alloc, quantised, certificate),
+        Some(plant) => {
+            let run = LoopSide { sample_time, plant };
+            without_error(check_loop_words(alloc, quantised, &run, certificate))
+        }
+    }
+}
+
+/// Checks a certificate against a controller, in a loop with the plant if there is one. The
+/// controller's words have to be of the format that the certificate says, or where it says none, of
+/// at most `NARROW_WORD_BITS` bits; then these words in the certificate's modes, and from these,
+/// and the plant, the formulas of its job, or the polynomial and its table, are made anew, and
+/// nothing else that the certificate says is believed. What passes has the certificate's property,
+/// whatever else is in the certificate: with a plant this is that the loop is stable. If a gain has
+/// an offer beside it, the answer is how far this shows the output to be from that of exact runs.
+/// It takes memory for a formula and a log at a time, or for rows of a table.
 ///
 /// # Errors
 ///
 /// In this order: the format's line, if the words have another; why the controller has no words
 /// in the modes; and then what the kind is refused for. For a table this is, in this order: the
-/// kind's line, if its job isn't a property of the controller's roots; at which index a number is
-/// too wide on the way to the polynomial, or that all coefficients of the numerator are 0; the
-/// kind's line, if the certificate has another number of coefficients than the polynomial, or more
-/// than [`MOST_COEFFICIENTS`]; the first line whose number isn't the polynomial's; and the kind's
-/// line, if a first number of the polynomial's table isn't positive. Want of memory comes wherever
-/// there is none.
+/// kind's line, if its job isn't a property of the controller's roots, or with a plant, the
+/// stability of a loop; at which index a number is too wide on the way to the polynomial, or that
+/// all coefficients of the numerator are 0, or with a plant, why there is no loop; the kind's line,
+/// if the certificate has another number of coefficients than the polynomial, or more than
+/// [`MOST_COEFFICIENTS`]; the first line whose number isn't the polynomial's; and the kind's line,
+/// if a first number of the polynomial's table isn't positive. With a plant each other kind is
+/// refused at the kind's line. Want of memory comes wherever there is none.
 ///
 /// [`MOST_COEFFICIENTS`]: dsv_certfile::MOST_COEFFICIENTS
 pub fn check(
     alloc: Global,
     controller: &Controller,
+    plant: Option<&Plant>,
     certificate: &Certificate,
 ) -> Result<Option<ShownError>, CheckRefusal>
-    ensures found { IsChecked controller.now certificate.now (as_checked result) }
-    ensures shows { OnOk result (IsShownOf controller.now (job_of certificate.now)) }
+    ensures found { IsChecked controller.now (option_copied plant.entry) certificate.now
+        (as_checked result) }
+    ensures shows { OnOk result
+        (IsShownOf controller.now (option_copied plant.entry) (job_of certificate.now)) }
     ensures near { IfOk result (IsNearOf controller.now certificate.now) }
 {
     let job = certificate.job();
     check_format(controller, job.words)?;
     let quantised = quantise_in(controller, job.design)?;
-    check_words(alloc, &quantised, certificate)
+    check_beside(
+        alloc,
+        &quantised,
+        *controller.sample_time(),
+        plant,
+        certificate,
+    )
 }

@@ -15,6 +15,5 @@ mod tables;
 
 pub use check_refusal::CheckRefusal;
 pub use checks::check;
-pub use law::{checks_are_apart, formats_are_compared, loop_formats_are_compared};
-pub use loops::check_loop;
+pub use law::{checks_are_apart, formats_are_compared, no_loop_is_refused_alone};
 pub use state_forms::{StateForm, check_state_form};

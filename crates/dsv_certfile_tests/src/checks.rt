@@ -631,7 +631,7 @@ fn certificate_of(alloc: Global, case: &Case) -> Option<Certificate> {
 fn found_of(alloc: Global, case: &Case) -> Option<Result<(), CheckRefusal>> {
     let controller = controller_of(alloc, case.0)?;
     let certificate = certificate_of(alloc, case)?;
-    match check(alloc, &controller, &certificate) {
+    match check(alloc, &controller, None, &certificate) {
         Ok(_) => Some(Ok(())),
         Err(why) => Some(Err(why)),
     }

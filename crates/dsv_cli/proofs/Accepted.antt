@@ -1,7 +1,7 @@
 -- A certificate that a run wrote is accepted for the same files.
 use Rattle.std.proofs.Common.{◌≡◌, ◌∙◌, inl, inr, sym, ap, subst, refl, ℕ, ◌≤◌, List, length}
 use Rattle.std.specs.Prelude.{Bool, true, false, Option, Some, None, Ok, Err, if◌then◌else◌, option_and_then}
-use Rattle.dsv_base.specs.Seen.{FilesSeen}
+use Rattle.dsv_base.specs.Seen.{FilesSeen, CameOf}
 use Rattle.dsv_names.specs.declared.design.Design.{Design}
 use Rattle.dsv_reader.specs.Controllers.{ControllerView}
 use Rattle.dsv_reader.specs.Plants.{PlantView}
@@ -26,16 +26,14 @@ use Rattle.dsv_report.specs.declared.answers.Answer.TheVariants as answer
 use Rattle.dsv_report.specs.declared.stop.CertificateFault.TheVariants as fault
 use Rattle.dsv_report.specs.declared.stop.Stop.{Stop}
 use Rattle.dsv_report.specs.declared.stop.Stop.TheVariants as stop
-use Rattle.dsv_report.specs.declared.stop.WhichFile.TheVariants as file
 use Rattle.dsv_report.specs.Stops.{Outcome}
 use Rattle.dsv_cli.specs.Accepted.{Accepts, HoldsTheSame, HoldTheSame, WrittenAreAccepted, check_of}
-use Rattle.dsv_cli.specs.Checking.{IsCertificateOf}
-use Rattle.dsv_cli.specs.Headline.{longest_certificate, CameOf, IsSpelled, IsLost}
+use Rattle.dsv_cli.specs.Files.{IsLost, a_controller, a_plant, a_state_controller, a_certificate, longest_certificate, IsFileOf}
 use Rattle.dsv_cli.specs.JobRows.{JobTexts, of_one, of_state_file, with_plant, HaveTexts, AreUnread, Evidence, certificate, ellipsoid, none, HasEvidence, JobWords, of_words, of_state_words, BecomeJobWords, AreWordless, IsTaskDone, IsDoneBy, IsOfCheck, IsCheckOfRow, IsJobRow, IsAnswered, IsSaidOf}
 use Rattle.dsv_cli.specs.States.{IsOfForm}
-use Rattle.dsv_cli.proofs.CertifiedWords.{IsAcceptable, PassesFor, PassesInLoop, PassesForStates, controller_fits, loop_fits, states_fit}
-use Rattle.dsv_cli.proofs.Exact.{one_controller, one_plant, one_states, controller_lost, plant_lost, states_lost, certificate_lost, one_written, words_lost, job_words_once}
-use Rattle.dsv_cli.proofs.ExactTasks.{ok_lost, checked_once_for, loop_once_for, checked_or_not}
+use Rattle.dsv_cli.proofs.CertifiedWords.{IsAcceptable, PassesFor, PassesForStates, controller_fits, loop_fits, states_fit}
+use Rattle.dsv_cli.proofs.Exact.{one_file, file_lost, one_written, words_lost, job_words_once}
+use Rattle.dsv_cli.proofs.ExactTasks.{ok_lost, checked_once_for, checked_or_not}
 
 -- ---- the certificate's file
 came_of : (P : List ℕ → Type 0) (told : Option (List ℕ)) (bytes : List ℕ) → told ≡ Some bytes → P bytes → CameOf told P
@@ -43,10 +41,10 @@ came_of P told bytes e h = subst (λ t. CameOf t P) (sym e) (bytes, refl, h)
 
 -- what was written is read back, with its places alone
 spelled_alone : (Passes : Certificate → Type 0) (old : FilesSeen) (name : List ℕ) (c : Certificate) → IsAcceptable Passes c → old.held name ≡ Some (certificate_text c) → length (certificate_text c) ≤ longest_certificate
-    → IsCertificateOf old name (certificate_alone c)
+    → IsFileOf a_certificate old name (certificate_alone c)
 spelled_alone Passes old name c a held short =
     let spelled : certificate_in (certificate_text c) ≡ Ok (certificate_alone c) = ap certificate_in (sym a.text) ∙ written_is_read (certificate_alone c) a.lawful in
-    came_of (λ bytes. IsSpelled bytes (certificate_alone c)) (old.held name) (certificate_text c) held (record { short = short; spelled = spelled })
+    came_of (λ bytes. (length bytes ≤ longest_certificate) × (certificate_in bytes ≡ Ok (certificate_alone c))) (old.held name) (certificate_text c) held (short, spelled)
 
 -- ---- what accepts a certificate
 abbrev IsAcceptance : CertifiedJob → Outcome → Type 0
@@ -80,16 +78,16 @@ lost_form c (Err why) h = h
 
 -- the certificate passes its check for these texts
 abbrev Passes : JobTexts → Certificate → Type 0
-Passes (of_one d) c = PassesFor d c
-Passes (with_plant d p) c = PassesInLoop d p c
+Passes (of_one d) c = PassesFor d None c
+Passes (with_plant d p) c = PassesFor d (Some p) c
 Passes texts c = ⊥
 
 passed_accepts : (t : JobTexts) (c : Certificate) (found : Outcome) → Passes t c → IsOfCheck t c found → IsAcceptance (job_of c) found
 passed_accepts (of_one d) c (Ok (answer.Checked certified error)) p h = h.0
-passed_accepts (of_one d) c (Err why) p (r, h, e) = lost_accepts (job_of c) (Err why) (ok_lost r why e (checked_once_for d c (Err r) (Ok tt) h p))
+passed_accepts (of_one d) c (Err why) p (r, h, e) = lost_accepts (job_of c) (Err why) (ok_lost r why e (checked_once_for d None c (Err r) (Ok tt) h p))
 passed_accepts (of_one d) c found p h = absurd h
 passed_accepts (with_plant d plant) c (Ok (answer.Checked certified error)) p h = h.0
-passed_accepts (with_plant d plant) c (Err why) p (r, h, e) = lost_accepts (job_of c) (Err why) (ok_lost r why e (loop_once_for d plant c (Err r) (Ok tt) h p))
+passed_accepts (with_plant d plant) c (Err why) p (r, h, e) = lost_accepts (job_of c) (Err why) (ok_lost r why e (checked_once_for d (Some plant) c (Err r) (Ok tt) h p))
 passed_accepts (with_plant d plant) c found p h = absurd h
 passed_accepts t c found p h = absurd p
 
@@ -98,19 +96,19 @@ record AreThere (old new : FilesSeen) (files : JobFiles) (t : JobTexts) : Type 0
   one : (u : JobTexts) → HaveTexts old files u → u ≡ t
   lost : (why : Stop) → AreUnread old new files why → IsLost (Err why)
 
-checked_accepts : (old new : FilesSeen) (files : JobFiles) (name : List ℕ) (t : JobTexts) (c : Certificate) (found : Outcome) → AreThere old new files t → IsCertificateOf old name c → HoldsTheSame old name old name → Passes t c
-    → (u : JobTexts) (d : Certificate) → HaveTexts old files u → IsCertificateOf old name d → IsOfCheck u d found → IsAcceptance (job_of c) found
+checked_accepts : (old new : FilesSeen) (files : JobFiles) (name : List ℕ) (t : JobTexts) (c : Certificate) (found : Outcome) → AreThere old new files t → IsFileOf a_certificate old name c → HoldsTheSame old name old name → Passes t c
+    → (u : JobTexts) (d : Certificate) → HaveTexts old files u → IsFileOf a_certificate old name d → IsOfCheck u d found → IsAcceptance (job_of c) found
 checked_accepts old new files name t c found there spelled held p u d has k h =
     let wrote : d ≡ c = one_written old old name d c held k spelled in
     let by_texts : IsOfCheck t d found = subst (λ x. IsOfCheck x d found) (there.one u has) h in
     passed_accepts t c found p (subst (λ x. IsOfCheck t x found) wrote by_texts)
 
-checks_accept : (old new : FilesSeen) (files : JobFiles) (name : List ℕ) (t : JobTexts) (c : Certificate) (found : Outcome) → AreThere old new files t → IsCertificateOf old name c → HoldsTheSame old name old name → Passes t c
+checks_accept : (old new : FilesSeen) (files : JobFiles) (name : List ℕ) (t : JobTexts) (c : Certificate) (found : Outcome) → AreThere old new files t → IsFileOf a_certificate old name c → HoldsTheSame old name old name → Passes t c
     → IsCheckOfRow old new files name found → IsAcceptance (job_of c) found
 checks_accept old new files name t c (Ok x) there spelled held p h = checked_accepts old new files name t c (Ok x) there spelled held p h.texts h.written h.have_texts h.spelled h.check
 checks_accept old new files name t c (Err stop.NoMemory) there spelled held p h = tt
 checks_accept old new files name t c (Err why) there spelled held p (inl h) = lost_accepts (job_of c) (Err why) (there.lost why h)
-checks_accept old new files name t c (Err why) there spelled held p (inr (inl h)) = lost_accepts (job_of c) (Err why) (certificate_lost old old new name c why held spelled h.2)
+checks_accept old new files name t c (Err why) there spelled held p (inr (inl h)) = lost_accepts (job_of c) (Err why) (file_lost a_certificate old old new name name c why held spelled h.2)
 checks_accept old new files name t c (Err why) there spelled held p (inr (inr h)) = checked_accepts old new files name t c (Err why) there spelled held p h.texts h.written h.have_texts h.spelled h.check
 
 -- ---- jobs that take a form
@@ -119,13 +117,13 @@ form_passes s c (Ok (answer.StateFalls many offer fall)) p h = h.1
 form_passes s c (Err (stop.CertificateRefused line (fault.Check why))) p h = absurd (checked_or_not (state_check s (certificate_alone c)) tt (refusal.Line line why) p h)
 form_passes s c found p h = absurd h
 
-named_form : (old : FilesSeen) (name : List ℕ) (c : Certificate) (e : Evidence) → HoldsTheSame old name old name → IsCertificateOf old name c → HasEvidence old (checks_form name) e → e ≡ certificate c
+named_form : (old : FilesSeen) (name : List ℕ) (c : Certificate) (e : Evidence) → HoldsTheSame old name old name → IsFileOf a_certificate old name c → HasEvidence old (checks_form name) e → e ≡ certificate c
 named_form old name c (certificate d) held spelled h = ap certificate (one_written old old name d c held h spelled)
 named_form old name c none held spelled h = absurd h
 named_form old name c (ellipsoid offer) held spelled h = absurd h
 
 form_done : (old new : FilesSeen) (file name : List ℕ) (design : Design) (t : StateFileView) (s : StateView) (c : Certificate) (found : Outcome) → AreThere old new (table_states file) (of_state_file t)
-    → IsCertificateOf old name (certificate_alone c) → HoldsTheSame old name old name → BecomeJobWords design (of_state_file t) (of_state_words s) → PassesForStates s (certificate_alone c)
+    → IsFileOf a_certificate old name (certificate_alone c) → HoldsTheSame old name old name → BecomeJobWords design (of_state_file t) (of_state_words s) → PassesForStates s (certificate_alone c)
     → IsDoneBy old (table_states file) (checks_form name) design found → IsFormAcceptance c found
 form_done old new file name design t s c found there spelled held b p h =
     let texts : h.texts ≡ of_state_file t = there.one h.texts h.have_texts in
@@ -137,12 +135,12 @@ form_done old new file name design t s c found there spelled held b p h =
     form_passes s c found p (subst (λ x. IsTaskDone (checks_form name) (certificate (certificate_alone c)) (of_state_file t) x found) words by_evidence)
 
 form_accepts : (old new : FilesSeen) (file name : List ℕ) (design : Design) (t : StateFileView) (s : StateView) (c : Certificate) (found : Outcome) → AreThere old new (table_states file) (of_state_file t)
-    → IsCertificateOf old name (certificate_alone c) → HoldsTheSame old name old name → BecomeJobWords design (of_state_file t) (of_state_words s) → PassesForStates s (certificate_alone c)
+    → IsFileOf a_certificate old name (certificate_alone c) → HoldsTheSame old name old name → BecomeJobWords design (of_state_file t) (of_state_words s) → PassesForStates s (certificate_alone c)
     → IsJobRow old new (table_states file) (checks_form name) design found → IsFormAcceptance c found
 form_accepts old new file name design t s c (Ok x) there spelled held b p h = form_done old new file name design t s c (Ok x) there spelled held b p h
 form_accepts old new file name design t s c (Err stop.NoMemory) there spelled held b p h = tt
 form_accepts old new file name design t s c (Err why) there spelled held b p (inl h) = lost_form c (Err why) (there.lost why h)
-form_accepts old new file name design t s c (Err why) there spelled held b p (inr (inl h)) = lost_form c (Err why) (certificate_lost old old new name (certificate_alone c) why held spelled h.2)
+form_accepts old new file name design t s c (Err why) there spelled held b p (inr (inl h)) = lost_form c (Err why) (file_lost a_certificate old old new name name (certificate_alone c) why held spelled h.2)
 form_accepts old new file name design t s c (Err why) there spelled held b p (inr (inr (inl h))) =
     lost_form c (Err why) (words_lost design (of_state_file t) (of_state_words s) why b (subst (λ x. AreWordless design x why) (there.one h.0 h.2) h.4))
 form_accepts old new file name design t s c (Err why) there spelled held b p (inr (inr (inr h))) = form_done old new file name design t s c (Err why) there spelled held b p h
@@ -152,18 +150,18 @@ flip : (old then_old : FilesSeen) (name other : List ℕ) → HoldsTheSame old n
 flip old then_old name other same = (same.0, same.2, same.1)
 
 controller_there : (old then_old then_new : FilesSeen) (name other : List ℕ) (d : ControllerView) → HoldsTheSame old name then_old other → HaveTexts old (controller name) (of_one d) → AreThere then_old then_new (controller other) (of_one d)
-controller_there old then_old then_new name other d same has = record { one = one; lost = λ why k. controller_lost file.Controller old then_old then_new name other d why same has k }
+controller_there old then_old then_new name other d same has = record { one = one; lost = λ why k. file_lost a_controller old then_old then_new name other d why same has k }
   where
     one : (u : JobTexts) → HaveTexts then_old (controller other) u → u ≡ of_one d
-    one (of_one x) k = ap of_one (one_controller then_old old other name x d (flip old then_old name other same) k has)
+    one (of_one x) k = ap of_one (one_file a_controller then_old old other name x d (flip old then_old name other same) k has)
     one u k = absurd k
 
 states_there : (old then_old then_new : FilesSeen) (name other : List ℕ) (t : StateFileView) → HoldsTheSame old name then_old other → HaveTexts old (table_states name) (of_state_file t)
     → AreThere then_old then_new (table_states other) (of_state_file t)
-states_there old then_old then_new name other t same has = record { one = one; lost = λ why k. states_lost old then_old then_new name other t why same has k }
+states_there old then_old then_new name other t same has = record { one = one; lost = λ why k. file_lost a_state_controller old then_old then_new name other t why same has k }
   where
     one : (u : JobTexts) → HaveTexts then_old (table_states other) u → u ≡ of_state_file t
-    one (of_state_file x) k = ap of_state_file (one_states then_old old other name x t (flip old then_old name other same) k has)
+    one (of_state_file x) k = ap of_state_file (one_file a_state_controller then_old old other name x t (flip old then_old name other same) k has)
     one u k = absurd k
 
 loop_there : (old then_old then_new : FilesSeen) (name plant other others : List ℕ) (d : ControllerView) (p : PlantView) → HoldsTheSame old name then_old other → HoldsTheSame old plant then_old others
@@ -172,12 +170,12 @@ loop_there old then_old then_new name plant other others d p same planted has = 
   where
     one : (u : JobTexts) → HaveTexts then_old (plant_loop other others) u → u ≡ with_plant d p
     one (with_plant x q) k =
-        ap (λ y. with_plant y q) (one_controller then_old old other name x d (flip old then_old name other same) k.0 has.0) ∙ ap (with_plant d) (one_plant then_old old others plant q p (flip old then_old plant others planted) k.1 has.1)
+        ap (λ y. with_plant y q) (one_file a_controller then_old old other name x d (flip old then_old name other same) k.0 has.0) ∙ ap (with_plant d) (one_file a_plant then_old old others plant q p (flip old then_old plant others planted) k.1 has.1)
     one u k = absurd k
 
     lost : (why : Stop) → AreUnread then_old then_new (plant_loop other others) why → IsLost (Err why)
-    lost why (inl k) = controller_lost file.Controller old then_old then_new name other d why same has.0 k
-    lost why (inr k) = plant_lost old then_old then_new plant others p why planted has.1 k.2
+    lost why (inl k) = file_lost a_controller old then_old then_new name other d why same has.0 k
+    lost why (inr k) = file_lost a_plant old then_old then_new plant others p why planted has.1 k.2
 
 -- ---- the certificate that is wanted
 wanted : (b : Bool) (o : Option Certificate) (c : Certificate) → (if b then o else None) ≡ Some c → (b ≡ true) × (o ≡ Some c)
@@ -207,7 +205,7 @@ module _ (old then_old then_new : FilesSeen) (task : Task) (design : Design) (ma
   controller_accepts file other (of_one d) (of_words q) e g has b done said =
       let a = controller_fits d q design words b said.1 file task e found c g.certifiable done g.written g.typed in
       subst (λ j. IsAcceptance j answered) a.job
-      (checks_accept then_old then_new (controller other) name (of_one d) (certificate_alone c) answered (controller_there old then_old then_new file other d g.same has) (spelled_alone (PassesFor d) then_old name c a g.held g.short)
+      (checks_accept then_old then_new (controller other) name (of_one d) (certificate_alone c) answered (controller_there old then_old then_new file other d g.same has) (spelled_alone (PassesFor d None) then_old name c a g.held g.short)
       (there_twice g.held) a.passes g.row)
   controller_accepts file other (of_one d) w e g has b done said = absurd b
   controller_accepts file other t w e g has b done said = absurd has
@@ -218,7 +216,7 @@ module _ (old then_old then_new : FilesSeen) (task : Task) (design : Design) (ma
       let a = loop_fits d p q design words file plant task e found c b said.1 g.certifiable done g.written g.typed in
       subst (λ j. IsAcceptance j answered) a.job
       (checks_accept then_old then_new (plant_loop other others) name (with_plant d p) (certificate_alone c) answered (loop_there old then_old then_new file plant other others d p g.same.0 g.same.1 has)
-      (spelled_alone (PassesInLoop d p) then_old name c a g.held g.short) (there_twice g.held) a.passes g.row)
+      (spelled_alone (PassesFor d (Some p)) then_old name c a g.held g.short) (there_twice g.held) a.passes g.row)
   loop_accepts file plant other others (with_plant d p) w e g has b done said = absurd b
   loop_accepts file plant other others t w e g has b done said = absurd has
 

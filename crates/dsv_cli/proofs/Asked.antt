@@ -9,8 +9,7 @@ use Rattle.std.proofs.lemmas.List.Elements.{All-append, All-cons, All-nil, All-h
 use Rattle.dsv_base.specs.declared.memory.NoMemory.{NoMemory}
 use Rattle.dsv_lyapunov.specs.Kept.{IsRefused, AreRefused}
 use Rattle.dsv_lyapunov.specs.declared.kept.KeptForm.{KeptForm}
-use Rattle.dsv_cli.specs.Blocks.{AreBlocks, IsTurn}
-use Rattle.dsv_cli.specs.Suffixes.{IsSuffix, HoldsOfNone}
+use Rattle.dsv_base.specs.Lists.{AreBlocks, IsTurn, IsSuffix, HoldsOfNone}
 use Rattle.dsv_cli.specs.Turns.{Gives, Turns, start, nothing, refused, full, Ends, ComesTo, offer_of, IsNotAccepted}
 use Rattle.dsv_cli.specs.declared.turns.Turn.{Turn}
 use Rattle.dsv_cli.specs.declared.turns.Turn.TheVariants as turn

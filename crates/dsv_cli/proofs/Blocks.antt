@@ -1,7 +1,7 @@
 -- One turn of asking, over any list of proposers, and what follows where the offers are blocks.
 use Rattle.std.proofs.Common.{◌≡◌, ℕ, zero, suc, ◌+◌, List, [], ◌∷◌, ◌++◌, Option, Some, None, take, slice_get, refl, sym, ap, ◌∙◌, add-one, append_assoc, arith}
 use Rattle.std.proofs.lemmas.Grind.{common_steps}
-use Rattle.dsv_cli.specs.Blocks.{IsBlock, AreBlocks, IsTurn}
+use Rattle.dsv_base.specs.Lists.{IsBlock, AreBlocks, IsTurn}
 
 -- a proposer that offered one more has a block with one more
 IsBlock-more : {C : Type 0} (before after : Option (List C)) (room more : ℕ) (c : C) (block : List C)

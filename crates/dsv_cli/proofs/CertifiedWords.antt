@@ -34,7 +34,7 @@ use Rattle.dsv_table.specs.RootSize.{is_inside}
 use Rattle.dsv_table.specs.declared.finding.TableFinding.{TableFinding}
 use Rattle.dsv_table.specs.declared.verdict.TableVerdict.{TableVerdict}
 use Rattle.dsv_table.specs.declared.verdict.TableVerdict.TheVariants as table
-use Rattle.dsv_certcheck.specs.Checks.{format_check, words_check}
+use Rattle.dsv_certcheck.specs.Checks.{format_check}
 use Rattle.dsv_certcheck.proofs.Passing.{format_passes, hints_pass, invariant_passes, gain_passes, falls_pass, roots_table_passes}
 use Rattle.dsv_names.specs.declared.design.Design.{Design}
 use Rattle.dsv_report.specs.declared.answers.Answer.{Answer}
@@ -44,9 +44,10 @@ use Rattle.dsv_roundoff.specs.declared.offers.RoundoffOffer.{RoundoffOffer}
 use Rattle.dsv_gain.specs.declared.outlook.Gain.{Gain}
 use Rattle.dsv_gain.proofs.Depths.{gains_again, gain_below}
 use Rattle.dsv_realise.specs.Netlists.{net_of}
-use Rattle.dsv_cli.specs.Gain.{most_gain_samples, IsGainOf, IsErrorOf}
+use Rattle.dsv_cli.specs.Gain.{most_gain_samples, IsErrorOf}
+use Rattle.dsv_gain.specs.Subjects.{IsGainOf}
 use Rattle.dsv_bounded.specs.RunAnswers.{NeverHappens}
-use Rattle.dsv_cli.specs.Sets.{KeepsTo}
+use Rattle.dsv_invariant.specs.Sets.{KeepsTo}
 use Rattle.dsv_cli.proofs.OutputErrors.{offer_passes, offer_lawful}
 use Rattle.dsv_realise.specs.Controllers.{of_controller}
 use Rattle.std.specs.Prelude.{option_and_then, Err, [], ◌∷◌}
@@ -62,8 +63,7 @@ use Rattle.dsv_state_space.specs.StateView.{StateView}
 use Rattle.dsv_state_space.proofs.StateOffers.{accepted_states_narrow, accepted_states_alone}
 use Rattle.dsv_certfile.specs.Words.{words_for}
 use Rattle.dsv_certfile.specs.declared.job.Size.{Size}
-use Rattle.dsv_certcheck.specs.Checks.{BecomesFor, IsFoundAfter, IsChecked}
-use Rattle.dsv_certcheck.specs.LoopChecks.{words_loop_check, IsLoopFoundAfter, IsLoopChecked}
+use Rattle.dsv_certcheck.specs.Found.{found_of, BecomesFor, IsFoundAfter, IsChecked}
 use Rattle.dsv_certcheck.specs.StateChecks.{state_check}
 use Rattle.dsv_certcheck.proofs.Passing.{loop_passes, state_form_passes}
 use Rattle.dsv_table.specs.Table as tables
@@ -73,7 +73,8 @@ use Rattle.dsv_report.specs.Headings.{property_of}
 use Rattle.dsv_report.specs.Output.{certificate_for, certified_design, certified_size, offer_in}
 use Rattle.dsv_tested.specs.Tested.{side_of, tested_of}
 use Rattle.dsv_cli.specs.Causes.{IsOfProperty}
-use Rattle.dsv_cli.specs.Headline.{ShowsFall, ShowsTable}
+use Rattle.dsv_lyapunov.specs.Shown.{ShowsFall}
+use Rattle.dsv_poly_table.specs.Shown.{ShowsTable}
 use Rattle.dsv_cli.specs.JobRows.{of_one, of_state_file, with_plant, Evidence, of_words, of_state_words, IsTaskDone}
 use Rattle.dsv_cli.specs.Loops.{IsOfLoop}
 
@@ -84,11 +85,8 @@ pub record IsAcceptable (Passes : Certificate → Type 0) (c : Certificate) : Ty
   pub text : certificate_text (certificate_alone c) ≡ certificate_text c
   pub job : job_of (certificate_alone c) ≡ job_of c
 
-abbrev pub PassesFor : ControllerView → Certificate → Type 0
-PassesFor d c = IsChecked d c (Ok tt)
-
-abbrev pub PassesInLoop : ControllerView → PlantView → Certificate → Type 0
-PassesInLoop d p c = IsLoopChecked d p c (Ok tt)
+abbrev pub PassesFor : ControllerView → Option PlantView → Certificate → Type 0
+PassesFor d plant c = IsChecked d plant c (Ok tt)
 
 abbrev pub PassesForStates : StateView → Certificate → Type 0
 PassesForStates s c = state_check s c ≡ Ok tt
@@ -100,12 +98,9 @@ made design words p s = record { property = p; design = design; words = words; s
 said_format : (d : ControllerView) (words : CertWords) → words ≡ words_for d.int_bits d.frac_bits → format_check d words ≡ Ok tt
 said_format d words e = subst (λ w. format_check d w ≡ Ok tt) (sym e) (format_passes d)
 
-passes_for : (d : ControllerView) (c : Certificate) (q : QuantisedView) → (job_of c).words ≡ words_for d.int_bits d.frac_bits → BecomesFor d (job_of c) (Ok q) → words_check q c ≡ Ok tt → PassesFor d c
-passes_for d c q said b h = subst (λ r. IsFoundAfter r d c (Ok tt)) (sym (said_format d (job_of c).words said)) (record { quantised = q; becomes = b; checked = h })
-
-passes_in_loop : (d : ControllerView) (p : PlantView) (c : Certificate) (q : QuantisedView) → (job_of c).words ≡ words_for d.int_bits d.frac_bits → BecomesFor d (job_of c) (Ok q) → words_loop_check q d.sample_time p c ≡ Ok tt
-    → PassesInLoop d p c
-passes_in_loop d p c q said b h = subst (λ r. IsLoopFoundAfter r d p c (Ok tt)) (sym (said_format d (job_of c).words said)) (record { quantised = q; becomes = b; checked = h })
+passes_for : (d : ControllerView) (plant : Option PlantView) (c : Certificate) (q : QuantisedView) → (job_of c).words ≡ words_for d.int_bits d.frac_bits → BecomesFor d (job_of c) (Ok q)
+    → found_of q d.sample_time plant c ≡ Ok tt → PassesFor d plant c
+passes_for d plant c q said b h = subst (λ r. IsFoundAfter r d plant c (Ok tt)) (sym (said_format d (job_of c).words said)) (record { quantised = q; becomes = b; checked = h })
 
 -- a certificate is wanted of a table whose first numbers are positive alone
 wanted_table : (job : CertifiedJob) (v : TableVerdict) (poly : List ℤ) (c : Certificate) → (if is_inside v then Some (certificate.Table job poly) else None) ≡ Some c → (v ≡ table.Inside) × (certificate.Table job poly ≡ c)
@@ -123,9 +118,9 @@ module _ (d : ControllerView) (q : QuantisedView) (design : Design) (words : Cer
   abbrev hints_for : RunProperty → ℕ → List Step → Certificate
   hints_for p samples log = certificate.Hints (made design words (OfRuns p) (size.Samples samples)) log
 
-  hints_fit : (p : RunProperty) (samples conflicts : ℕ) (log : List Step) → NeverHappens p samples conflicts (of_controller q) log → IsTyped (hints_for p samples log) → IsAcceptable (PassesFor d) (hints_for p samples log)
+  hints_fit : (p : RunProperty) (samples conflicts : ℕ) (log : List Step) → NeverHappens p samples conflicts (of_controller q) log → IsTyped (hints_for p samples log) → IsAcceptable (PassesFor d None) (hints_for p samples log)
   hints_fit p samples conflicts log n t = record {
-    passes = passes_for d (hints_for p samples log) q said becomes (hints_pass words q p samples log t.size n.within n.refuted.accepted);
+    passes = passes_for d None (hints_for p samples log) q said becomes (hints_pass words q p samples log t.size n.within n.refuted.accepted);
     lawful = hints_are_lawful (question_formula p (of_controller q) samples) conflicts (made design words (OfRuns p) (size.Samples samples)) log refl t n.refuted;
     text = refl;
     job = refl;
@@ -134,9 +129,9 @@ module _ (d : ControllerView) (q : QuantisedView) (design : Design) (words : Cer
   abbrev invariant_for : Candidate → ThreeLogs → Certificate
   invariant_for candidate logs = certificate.Invariant (made design words (OfRuns Overflow) size.Unbounded) candidate logs
 
-  invariant_fits : (conflicts : ℕ) (candidate : Candidate) (logs : ThreeLogs) → KeepsTo q conflicts candidate logs → IsTyped (invariant_for candidate logs) → IsAcceptable (PassesFor d) (invariant_for candidate logs)
+  invariant_fits : (conflicts : ℕ) (candidate : Candidate) (logs : ThreeLogs) → KeepsTo q conflicts candidate logs → IsTyped (invariant_for candidate logs) → IsAcceptable (PassesFor d None) (invariant_for candidate logs)
   invariant_fits conflicts candidate logs k t = record {
-    passes = passes_for d (invariant_for candidate logs) q said becomes (invariant_passes words q conflicts candidate logs k.within k.good.0 k.good.1);
+    passes = passes_for d None (invariant_for candidate logs) q said becomes (invariant_passes words q conflicts candidate logs k.within k.good.0 k.good.1);
     lawful = invariant_is_lawful (registers_of q.realisation (order q)) conflicts (set_formula_of q candidate part.Base) (set_formula_of q candidate part.Step) (set_formula_of q candidate part.Safe)
         (made design words (OfRuns Overflow) size.Unbounded) candidate logs refl t k.good.0 (record { of_base = k.good.1.base; of_step = k.good.1.step; of_safe = k.good.1.safe });
     text = refl;
@@ -146,13 +141,13 @@ module _ (d : ControllerView) (q : QuantisedView) (design : Design) (words : Cer
   abbrev gain_for : ℕ → Option RoundoffOffer → Certificate
   gain_for depth offer = certificate.Gain (made design words (OfRuns Overflow) size.Unbounded) depth offer
 
-  gain_fits : (gain : Gain) (found : OutputError) → IsGainOf (of_controller q) gain → IsErrorOf q found → IsTyped (gain_for gain.depth (offer_in found)) → IsAcceptable (PassesFor d) (gain_for gain.depth (offer_in found))
+  gain_fits : (gain : Gain) (found : OutputError) → IsGainOf most_gain_samples (of_controller q) gain → IsErrorOf q found → IsTyped (gain_for gain.depth (offer_in found)) → IsAcceptable (PassesFor d None) (gain_for gain.depth (offer_in found))
   gain_fits gain found k e t =
       let below = gain_below (net_of q) q.xlo q.xhi most_gain_samples gain k.found in
       let again = gains_again (net_of q) q.xlo q.xhi most_gain_samples gain k.found in
       let deep : gain.depth ≤ most_gain_depth = omega (arith, below) in
       record {
-        passes = passes_for d (gain_for gain.depth (offer_in found)) q said becomes (gain_passes words q gain.depth (offer_in found) again.0 deep again.1 (offer_passes words q found e));
+        passes = passes_for d None (gain_for gain.depth (offer_in found)) q said becomes (gain_passes words q gain.depth (offer_in found) again.0 deep again.1 (offer_passes words q found e));
         lawful = gain_is_lawful (made design words (OfRuns Overflow) size.Unbounded) gain.depth (offer_in found) refl t deep (offer_lawful q found e);
         text = refl;
         job = refl;
@@ -161,12 +156,12 @@ module _ (d : ControllerView) (q : QuantisedView) (design : Design) (words : Cer
   abbrev falls_for : RootProperty → Falls → Certificate
   falls_for p offer = certificate.Falls (made design words (OfRoots p) size.NoSize) offer
 
-  falls_fit : (p : RootProperty) (poly : List ℤ) (offer : Falls) (fall : Form) → tested_of q (side_of p) ≡ Ok (tested.Poly poly) → ShowsFall poly offer fall → IsTyped (falls_for p offer) → IsAcceptable (PassesFor d) (falls_for p offer)
+  falls_fit : (p : RootProperty) (poly : List ℤ) (offer : Falls) (fall : Form) → tested_of q (side_of p) ≡ Ok (tested.Poly poly) → ShowsFall poly offer fall → IsTyped (falls_for p offer) → IsAcceptable (PassesFor d None) (falls_for p offer)
   falls_fit p poly offer fall test s known =
       let certified = made design words (OfRoots p) size.NoSize in
       let narrow = accepted_are_narrow poly offer s.accepted in
       record {
-        passes = passes_for d (falls_for p (offer_alone offer)) q said becomes (falls_pass words q p poly (offer_alone offer) test (accepted_alone poly offer known.places s.accepted));
+        passes = passes_for d None (falls_for p (offer_alone offer)) q said becomes (falls_pass words q p poly (offer_alone offer) test (accepted_alone poly offer known.places s.accepted));
         lawful = falls_are_lawful certified offer refl known narrow;
         text = falls_text certified offer known narrow;
         job = refl;
@@ -176,26 +171,26 @@ module _ (d : ControllerView) (q : QuantisedView) (design : Design) (words : Cer
   table_for p poly = certificate.Table (made design words (OfRoots p) size.NoSize) poly
 
   table_fits : (p : RootProperty) (found : TableFinding) → tested_of q (side_of p) ≡ Ok (tested.Poly found.poly) → ShowsTable found → found.verdict ≡ table.Inside → IsTyped (table_for p found.poly)
-      → IsAcceptable (PassesFor d) (table_for p found.poly)
+      → IsAcceptable (PassesFor d None) (table_for p found.poly)
   table_fits p found test s inside known =
       let few : length found.poly ≤ most_coefficients = omega (arith, s.few) in
       record {
-        passes = passes_for d (table_for p found.poly) q said becomes (roots_table_passes words q p found.poly few test (sym s.finding.verdict ∙ inside));
+        passes = passes_for d None (table_for p found.poly) q said becomes (roots_table_passes words q p found.poly few test (sym s.finding.verdict ∙ inside));
         lawful = table_is_lawful (made design words (OfRoots p) size.NoSize) found.poly refl known s.finding.some few;
         text = refl;
         job = refl;
       }
 
   -- the certificate of an answer to a question of roots
-  roots_fit : (p : RootProperty) (sc : Bool) (found : Answer) (c : Certificate) → IsOfProperty p sc q (Ok found) → certificate_for (made design words (OfRoots p) size.NoSize) found ≡ Some c → IsTyped c → IsAcceptable (PassesFor d) c
+  roots_fit : (p : RootProperty) (sc : Bool) (found : Answer) (c : Certificate) → IsOfProperty p sc q (Ok found) → certificate_for (made design words (OfRoots p) size.NoSize) found ≡ Some c → IsTyped c → IsAcceptable (PassesFor d None) c
   roots_fit p sc (answer.Falls poly offer fall) c h e known =
       let is = the_same (falls_for p offer) c e in
       let test = subst (λ x. tested_of q (side_of p) ≡ Ok (tested.Poly x)) (sym h.decision.0) h.tested in
-      subst (IsAcceptable (PassesFor d)) is (falls_fit p poly offer fall test h.decision.1 (subst IsTyped (sym is) known))
+      subst (IsAcceptable (PassesFor d None)) is (falls_fit p poly offer fall test h.decision.1 (subst IsTyped (sym is) known))
   roots_fit p sc (answer.OfTable found) c h e known =
       let w = wanted_table (made design words (OfRoots p) size.NoSize) found.verdict found.poly c e in
       let test = subst (λ x. tested_of q (side_of p) ≡ Ok (tested.Poly x)) (sym h.decision.0) h.tested in
-      subst (IsAcceptable (PassesFor d)) w.1 (table_fits p found test h.decision.2 w.0 (subst IsTyped (sym w.1) known))
+      subst (IsAcceptable (PassesFor d None)) w.1 (table_fits p found test h.decision.2 w.0 (subst IsTyped (sym w.1) known))
   roots_fit p sc (answer.KeptAway poly offer fall value) c h e known = absurd (not_none c e)
   roots_fit p sc (answer.NoForm poly kept verdict) c h e known = absurd (not_none c e)
   roots_fit p sc answer.NoZeros c h e known = absurd (not_none c e)
@@ -203,22 +198,22 @@ module _ (d : ControllerView) (q : QuantisedView) (design : Design) (words : Cer
   roots_fit p sc found c h e known = absurd h.decision
 
   pub controller_fits : (file : List ℕ) (task : Task) (evidence : Evidence) (found : Answer) (c : Certificate) → may_certify of_kind.Controller task ≡ true → IsTaskDone task evidence (of_one d) (of_words q) (Ok found)
-      → option_and_then (λ p. certificate_for (made design words p (certified_size (controller file) task)) found) (property_of task) ≡ Some c → IsTyped c → IsAcceptable (PassesFor d) c
+      → option_and_then (λ p. certificate_for (made design words p (certified_size (controller file) task)) found) (property_of task) ≡ Some c → IsTyped c → IsAcceptable (PassesFor d None) c
   controller_fits file (searches p samples conflicts) evidence (answer.Never log) c m h e known =
       let is = the_same (hints_for p samples log) c e in
-      subst (IsAcceptable (PassesFor d)) is (hints_fit p samples conflicts log h (subst IsTyped (sym is) known))
+      subst (IsAcceptable (PassesFor d None)) is (hints_fit p samples conflicts log h (subst IsTyped (sym is) known))
   controller_fits file (searches p samples conflicts) evidence (answer.Overflow trace) c m h e known = absurd (not_none c e)
   controller_fits file (searches p samples conflicts) evidence (answer.Cycles cycle) c m h e known = absurd (not_none c e)
   controller_fits file (searches p samples conflicts) evidence (answer.Spent log) c m h e known = absurd (not_none c e)
   controller_fits file (searches p samples conflicts) evidence found c m h e known = absurd h
   controller_fits file (seeks_set conflicts) evidence (answer.Always candidate logs) c m h e known =
       let is = the_same (invariant_for candidate logs) c e in
-      subst (IsAcceptable (PassesFor d)) is (invariant_fits conflicts candidate logs h (subst IsTyped (sym is) known))
+      subst (IsAcceptable (PassesFor d None)) is (invariant_fits conflicts candidate logs h (subst IsTyped (sym is) known))
   controller_fits file (seeks_set conflicts) evidence (answer.NoInvariant kept) c m h e known = absurd (not_none c e)
   controller_fits file (seeks_set conflicts) evidence found c m h e known = absurd h
   controller_fits file measures_gain evidence (answer.InRanges gain error) c m h e known =
       let is = the_same (gain_for gain.depth (offer_in error)) c e in
-      subst (IsAcceptable (PassesFor d)) is (gain_fits gain error h.0 h.1 (subst IsTyped (sym is) known))
+      subst (IsAcceptable (PassesFor d None)) is (gain_fits gain error h.0 h.1 (subst IsTyped (sym is) known))
   controller_fits file measures_gain evidence (answer.Overflow trace) c m h e known = absurd (not_none c e)
   controller_fits file measures_gain evidence (answer.OutOfRange sample value) c m h e known = absurd (not_none c e)
   controller_fits file measures_gain evidence (answer.TooDeep depth) c m h e known = absurd (not_none c e)
@@ -243,11 +238,11 @@ decided (Err why) found h few = absurd h
 
 loop_table_fits : (d : ControllerView) (p : PlantView) (q : QuantisedView) (design : Design) (words : CertWords) (poly : List ℤ) → BecomesWords d design (Ok q) → words ≡ words_for d.int_bits d.frac_bits
     → IsOfPolynomial (loop_of (q ∷ []) d.sample_time p) poly table.Inside → IsTyped (certificate.Table (made design words (OfRoots Stability) size.OfLoop) poly)
-    → IsAcceptable (PassesInLoop d p) (certificate.Table (made design words (OfRoots Stability) size.OfLoop) poly)
+    → IsAcceptable (PassesFor d (Some p)) (certificate.Table (made design words (OfRoots Stability) size.OfLoop) poly)
 loop_table_fits d p q design words poly becomes said is known =
     let certified = made design words (OfRoots Stability) size.OfLoop in
     record {
-      passes = passes_in_loop d p (certificate.Table certified poly) q said becomes (loop_passes words q d.sample_time p poly is.few is.came_is is.verdict_is);
+      passes = passes_for d (Some p) (certificate.Table certified poly) q said becomes (loop_passes words q d.sample_time p poly is.few is.came_is is.verdict_is);
       lawful = table_is_lawful certified poly refl known is.some is.few;
       text = refl;
       job = refl;
@@ -264,11 +259,11 @@ loop_tabled (Err why) found h = absurd h
 
 pub loop_fits : (d : ControllerView) (p : PlantView) (q : QuantisedView) (design : Design) (words : CertWords) (file plant : List ℕ) (task : Task) (evidence : Evidence) (found : Answer) (c : Certificate) → BecomesWords d design (Ok q)
     → words ≡ words_for d.int_bits d.frac_bits → may_certify of_kind.Loop task ≡ true → IsTaskDone task evidence (with_plant d p) (of_words q) (Ok found)
-    → option_and_then (λ r. certificate_for (made design words r (certified_size (plant_loop file plant) task)) found) (property_of task) ≡ Some c → IsTyped c → IsAcceptable (PassesInLoop d p) c
+    → option_and_then (λ r. certificate_for (made design words r (certified_size (plant_loop file plant) task)) found) (property_of task) ≡ Some c → IsTyped c → IsAcceptable (PassesFor d (Some p)) c
 loop_fits d p q design words file plant (decides Stability sc) evidence (answer.OfTable found) c becomes said m h e known =
     let certified = made design words (OfRoots Stability) size.OfLoop in
     let w = wanted_table certified found.verdict found.poly c e in
-    subst (IsAcceptable (PassesInLoop d p)) w.1
+    subst (IsAcceptable (PassesFor d (Some p))) w.1
     (loop_table_fits d p q design words found.poly becomes said (subst (IsOfPolynomial (loop_of (q ∷ []) d.sample_time p) found.poly) w.0 (decided (loop_of (q ∷ []) d.sample_time p) found h.0 h.1)) (subst IsTyped (sym w.1) known))
 loop_fits d p q design words file plant (decides Stability sc) evidence found c becomes said m h e known = absurd (loop_tabled (loop_of (q ∷ []) d.sample_time p) found h.0)
 loop_fits d p q design words file plant (decides property sc) evidence found c becomes said m h e known = absurd h

@@ -1,5 +1,5 @@
 -- Each outcome is a verdict, a refusal, a fault or want of memory.
-use Rattle.std.proofs.Common.{inl, inr, refl, ℕ, List}
+use Rattle.std.proofs.Common.{suc, inl, inr, refl, ℕ, List}
 use Rattle.std.specs.Prelude.{◌≡◌, ◌⊎◌, Some, Ok, Err}
 use Rattle.dsv_base.specs.Counts.{Rose}
 use Rattle.dsv_base.specs.Seen.{FilesSeen}
@@ -11,16 +11,14 @@ use Rattle.dsv_report.specs.Stops.{Outcome}
 use Rattle.dsv_report.specs.declared.stop.Stop.{Stop}
 use Rattle.dsv_report.specs.declared.stop.Stop.TheVariants as stop
 use Rattle.dsv_report.specs.declared.stop.WhichFile.{WhichFile}
-use Rattle.dsv_report.specs.declared.stop.WhichFile.TheVariants as file
 use Rattle.dsv_report.specs.declared.verdict.Verdict.{Verdict}
 use Rattle.dsv_report.specs.declared.verdict.Verdict.TheVariants.{Successful, Failed, Inconclusive, Simulation, Plain}
 use Rattle.dsv_cli.specs.Cascades.{IsLaterUnread}
-use Rattle.dsv_cli.specs.Checking.{IsUnreadCertificate}
 use Rattle.dsv_cli.specs.Completeness.{IsVerdict, IsRefusedByNone, IsDecidedBy, AreDecided}
-use Rattle.dsv_cli.specs.Ellipsoids.{IsUnreadOffer}
 use Rattle.dsv_cli.specs.JobRows.{JobTexts, of_one, of_sections, of_state_file, with_plant, sections_with_plant, AreUnread, IsEvidenceUnread, AreWordless, IsJobRow, IsCheckOfRow, IsAnswered}
-use Rattle.dsv_cli.specs.States.{IsStatesUnread}
 use Rattle.dsv_cli.proofs.ExactTasks.{no_task_fault, no_check_fault}
+use Rattle.dsv_cli.specs.Files.{a_controller, a_section, a_state_controller, a_plant, a_certificate, an_ellipsoid}
+use Rattle.dsv_cli.proofs.FileBytes.{file_rose}
 
 answer_verdict : (v : Verdict) → IsVerdict (verdict_status v)
 answer_verdict Successful = inl refl
@@ -56,41 +54,23 @@ decided old new HasRow rose (Ok found) row none calm = inl (answer_verdict (verd
 decided old new HasRow rose (Err why) row none calm = stop_decided old new HasRow rose why row none calm
 
 -- ---- faults of reads
-states_rose : (old new : FilesSeen) (name : List ℕ) (which : WhichFile) → IsStatesUnread old new name (stop.ReadFault which) → Rose old.faults new.faults
-states_rose old new name file.Controller h = h.0
-states_rose old new name file.Certificate h = absurd h
-states_rose old new name (file.Section section) h = absurd h
-states_rose old new name file.Plant h = absurd h
-
 later_rose : (old new : FilesSeen) (names : List (List ℕ)) (which : WhichFile) → IsLaterUnread old new names (stop.ReadFault which) → Rose old.faults new.faults
-later_rose old new names which h = h.5.1
-
-certificate_rose : (old new : FilesSeen) (name : List ℕ) (which : WhichFile) → IsUnreadCertificate old new name (stop.ReadFault which) → Rose old.faults new.faults
-certificate_rose old new name file.Certificate h = h.0
-certificate_rose old new name file.Controller h = absurd h
-certificate_rose old new name (file.Section section) h = absurd h
-certificate_rose old new name file.Plant h = absurd h
-
-offer_rose : (old new : FilesSeen) (name : List ℕ) (which : WhichFile) → IsUnreadOffer old new name (stop.ReadFault which) → Rose old.faults new.faults
-offer_rose old new name file.Certificate h = h.0
-offer_rose old new name file.Controller h = absurd h
-offer_rose old new name (file.Section section) h = absurd h
-offer_rose old new name file.Plant h = absurd h
+later_rose old new names which h = file_rose (a_section (suc h.0)) old new h.1 which h.5
 
 files_rose : (old new : FilesSeen) (files : JobFiles) (which : WhichFile) → AreUnread old new files (stop.ReadFault which) → Rose old.faults new.faults
-files_rose old new (controller name) which h = h.1
-files_rose old new (cascade name later) which (inl h) = h.1
+files_rose old new (controller name) which h = file_rose a_controller old new name which h
+files_rose old new (cascade name later) which (inl h) = file_rose a_controller old new name which h
 files_rose old new (cascade name later) which (inr h) = later_rose old new later which h.2
-files_rose old new (states name) which h = states_rose old new name which h
-files_rose old new (plant_loop name plant) which (inl h) = h.1
-files_rose old new (plant_loop name plant) which (inr h) = h.2.1
-files_rose old new (cascade_loop name later plant) which (inl h) = h.1
+files_rose old new (states name) which h = file_rose a_state_controller old new name which h
+files_rose old new (plant_loop name plant) which (inl h) = file_rose a_controller old new name which h
+files_rose old new (plant_loop name plant) which (inr h) = file_rose a_plant old new plant which h.2
+files_rose old new (cascade_loop name later plant) which (inl h) = file_rose a_controller old new name which h
 files_rose old new (cascade_loop name later plant) which (inr (inl h)) = later_rose old new later which h.2
-files_rose old new (cascade_loop name later plant) which (inr (inr h)) = h.4.1
+files_rose old new (cascade_loop name later plant) which (inr (inr h)) = file_rose a_plant old new plant which h.4
 
 evidence_rose : (old new : FilesSeen) (task : Task) (which : WhichFile) → IsEvidenceUnread old new task (stop.ReadFault which) → Rose old.faults new.faults
-evidence_rose old new (checks_form name) which h = certificate_rose old new name which h
-evidence_rose old new (checks_ellipsoid name) which h = offer_rose old new name which h
+evidence_rose old new (checks_form name) which h = file_rose a_certificate old new name which h
+evidence_rose old new (checks_ellipsoid name) which h = file_rose an_ellipsoid old new name which h
 evidence_rose old new task which h = absurd h
 
 -- words are no fault of a read
@@ -109,7 +89,7 @@ job_rose old new files task design which (inr (inr (inr h))) = absurd (no_task_f
 
 check_rose : (old new : FilesSeen) (files : JobFiles) (name : List ℕ) (which : WhichFile) → IsCheckOfRow old new files name (Err (stop.ReadFault which)) → Rose old.faults new.faults
 check_rose old new files name which (inl h) = files_rose old new files which h
-check_rose old new files name which (inr (inl h)) = certificate_rose old new name which h.2
+check_rose old new files name which (inr (inl h)) = file_rose a_certificate old new name which h.2
 check_rose old new files name which (inr (inr h)) = absurd (no_check_fault h.texts h.written which h.check)
 
 answer_rose : (old new : FilesSeen) (request : Request) (which : WhichFile) → IsAnswered old new (Some request) (Err (stop.ReadFault which)) → Rose old.faults new.faults

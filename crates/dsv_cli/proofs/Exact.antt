@@ -3,13 +3,14 @@ use Rattle.std.proofs.Common.{◌≡◌, ◌∙◌, ◌⊎◌, inl, inr, sym, ap
 use Rattle.std.specs.Prelude.{Result, slice_get}
 use Rattle.std.specs.List.{All}
 use Rattle.std.proofs.lemmas.Bool.{cases_order}
-use Rattle.dsv_base.specs.Seen.{FilesSeen}
+use Rattle.dsv_base.specs.Seen.{FilesSeen, CameOf}
 use Rattle.dsv_names.specs.declared.design.Design.{Design}
+use Rattle.dsv_token.specs.declared.refusal.FileRefusal.{FileRefusal}
 use Rattle.dsv_token.specs.declared.refusal.FileRefusal.TheVariants as text
+use Rattle.dsv_state_file.specs.declared.refusal.StateRefusal.{StateRefusal}
+use Rattle.dsv_certfile.specs.declared.fault.TextRefusal.{TextRefusal}
 use Rattle.dsv_reader.specs.Controllers.{ControllerView}
-use Rattle.dsv_reader.specs.Plants.{PlantView}
 use Rattle.dsv_reader.specs.Reading.{reading, plant_reading}
-use Rattle.dsv_reader.specs.Texts.{IsFaultOf}
 use Rattle.dsv_reader.proofs.TextLaws.{text_read}
 use Rattle.dsv_reader.proofs.PlantTexts.{plant_text_read}
 use Rattle.dsv_quantiser.specs.Modes.{BecomesWords}
@@ -31,7 +32,6 @@ use Rattle.dsv_state_space.specs.declared.refusal.StateQuantRefusal.{StateQuantR
 use Rattle.dsv_certfile.specs.Ellipsoids.{ellipsoid_in}
 use Rattle.dsv_certfile.specs.Reading.{certificate_in}
 use Rattle.dsv_certfile.specs.declared.certificate.Certificate.{Certificate}
-use Rattle.dsv_certfile.specs.declared.ellipsoid.Ellipsoid.{Ellipsoid}
 use Rattle.dsv_certfile.specs.declared.fault.CertRefusal.{CertRefusal}
 use Rattle.dsv_certfile.specs.declared.fault.CertRefusal.TheVariants as unread
 use Rattle.dsv_command.specs.Table.{Request, JobFiles, controller, cascade, plant_loop, cascade_loop, Job, Task, checks_form, checks_ellipsoid, does, checks, generates}
@@ -41,20 +41,15 @@ use Rattle.dsv_report.specs.declared.stop.Stop.{Stop}
 use Rattle.dsv_report.specs.declared.stop.Stop.TheVariants as stop
 use Rattle.dsv_report.specs.declared.stop.WhichFile.{WhichFile}
 use Rattle.dsv_report.specs.declared.stop.WhichFile.TheVariants as file
-use Rattle.dsv_report.specs.Stops.{Outcome}
+use Rattle.dsv_report.specs.Stops.{Outcome, stop_of_text}
 use Rattle.dsv_cli.specs.Accepted.{HoldsTheSame, AreTheSame, HoldTheSame}
-use Rattle.dsv_cli.specs.Cascades.{IsFileOf, AreControllers, IsLaterUnread, BecomeWords, IsNoCascade}
-use Rattle.dsv_cli.specs.Checking.{IsUnreadCertificate}
-use Rattle.dsv_cli.specs.Ellipsoids.{IsOffer, IsOfferOf, IsUnreadOffer}
+use Rattle.dsv_cli.specs.Cascades.{AreControllers, IsLaterUnread, BecomeWords, IsNoCascade}
 use Rattle.dsv_cli.specs.Exact.{NamesTheSame, IsToldTheSame, RefusalsComeExactly}
-use Rattle.dsv_cli.specs.Headline.{IsLost, longest_file, longest_certificate, CameOf, IsControllerOf, IsSpelled, IsUnread, IsOfGeneration}
+use Rattle.dsv_cli.specs.Causes.{IsOfGeneration}
+use Rattle.dsv_cli.specs.Files.{IsLost, FileKind, a_controller, a_section, a_state_controller, a_plant, a_certificate, an_ellipsoid, which_of, limit_of, too_long_of, NoneCame, Content, IsText, IsRefusedBy, IsFaulty, IsFileOf, IsUnread}
 use Rattle.dsv_cli.specs.JobRows.{JobTexts, of_one, of_sections, of_state_file, with_plant, sections_with_plant, HaveTexts, AreUnread, Evidence, none, certificate, ellipsoid, HasEvidence, IsEvidenceUnread, JobWords, of_words, of_series, of_state_words, BecomeJobWords, IsWordless, AreWordless, LacksEvidence, LacksWords, IsTaskDone, IsDoneBy, IsOfCheck, IsCheckedBy, IsAnswered}
-use Rattle.dsv_cli.specs.Checking.{IsCertificateOf}
-use Rattle.dsv_cli.specs.Loops.{IsPlantOf, IsPlantFileOf, IsPlantFault}
-use Rattle.dsv_cli.specs.States.{IsStateController, IsStatesFileOf, IsStatesUnread}
 use Rattle.dsv_cli.proofs.ExactTasks.{stopped_by, IsThis, task_exact, check_exact}
-use Rattle.dsv_cli.proofs.OneAnswerTasks.{at_place, before_place}
-use Rattle.dsv_cli.proofs.Pairwise.{pair_at, pair_before}
+use Rattle.dsv_cli.proofs.Pairwise.{pair_at, pair_before, at_place, before_place}
 
 -- ---- what the bytes of a file come to
 -- they are over a limit, or their reading refuses them, or they are read
@@ -91,99 +86,79 @@ told P bytes held e t =
     subst P same t.2
 
 -- ---- each kind of file
-abbrev ControllerComes : WhichFile → List ℕ → Result ControllerView Stop → Type 0
-ControllerComes which = Comes longest_file reading (stop.FileTooLong which) (stop.FileRefused which)
+-- what its reading refuses
+abbrev Fault : FileKind → Type 0
+Fault a_controller = FileRefusal
+Fault (a_section section) = FileRefusal
+Fault a_state_controller = StateRefusal
+Fault a_plant = FileRefusal
+Fault a_certificate = CertRefusal
+Fault an_ellipsoid = TextRefusal
 
-controller_read : (which : WhichFile) (old : FilesSeen) (name bytes : List ℕ) (c : ControllerView) → old.held name ≡ Some bytes → IsFileOf old name c → ControllerComes which bytes (Ok c)
-controller_read which old name bytes c e h =
-    let k = told (λ came. IsControllerOf came c) bytes (old.held name) e h in
-    (k.short, text_read bytes c k.text)
+abbrev reading_of : (kind : FileKind) → List ℕ → Result (Content kind) (Fault kind)
+reading_of a_controller = reading
+reading_of (a_section section) = reading
+reading_of a_state_controller = state_of
+reading_of a_plant = plant_reading
+reading_of a_certificate = certificate_in
+reading_of an_ellipsoid = ellipsoid_in
 
-controller_stopped : (which : WhichFile) (old new : FilesSeen) (name bytes : List ℕ) (why : Stop) → old.held name ≡ Some bytes → IsUnread which IsFaultOf old new name why → ControllerComes which bytes (Err why) ⊎ IsLost (Err why)
-controller_stopped which old new name bytes (stop.FileRefused w text.NoMemory) e h = absurd h
-controller_stopped which old new name bytes (stop.FileRefused w r) e h =
-    let k = told (λ came. (length came ≤ longest_file) × IsFaultOf came r) bytes (old.held name) e h.1 in
-    inl (inr (r, k.0, k.1, ap (λ x. stop.FileRefused x r) h.0))
-controller_stopped which old new name bytes (stop.FileTooLong w) e h = inl (inl (told (λ came. longest_file < length came) bytes (old.held name) e h.1, ap stop.FileTooLong h.0))
-controller_stopped which old new name bytes (stop.ReadFault w) e h = inr tt
-controller_stopped which old new name bytes stop.NoMemory e h = inr tt
-controller_stopped which old new name bytes why e h = absurd h
+abbrev refusal_of : (kind : FileKind) → Fault kind → Stop
+refusal_of a_controller = stop.FileRefused file.Controller
+refusal_of (a_section section) = stop.FileRefused (file.Section section)
+refusal_of a_state_controller = stop.StateRefused
+refusal_of a_plant = stop.FileRefused file.Plant
+refusal_of a_certificate = stop_of_text
+refusal_of an_ellipsoid = stop.EllipsoidText
 
-abbrev PlantComes : List ℕ → Result PlantView Stop → Type 0
-PlantComes = Comes longest_file plant_reading (stop.FileTooLong file.Plant) (stop.FileRefused file.Plant)
+abbrev ComesAs : (kind : FileKind) → List ℕ → Result (Content kind) Stop → Type 0
+ComesAs kind = Comes (limit_of (which_of kind)) (reading_of kind) (too_long_of (which_of kind)) (refusal_of kind)
 
-plant_read : (old : FilesSeen) (name bytes : List ℕ) (p : PlantView) → old.held name ≡ Some bytes → IsPlantFileOf old name p → PlantComes bytes (Ok p)
-plant_read old name bytes p e h =
-    let k = told (λ came. IsPlantOf came p) bytes (old.held name) e h in
-    (k.short, plant_text_read bytes p k.text)
+is_read : (kind : FileKind) (bytes : List ℕ) (x : Content kind) → IsText kind bytes x → reading_of kind bytes ≡ Ok x
+is_read a_controller bytes c h = text_read bytes c h
+is_read (a_section section) bytes c h = text_read bytes c h
+is_read a_state_controller bytes c h = state_taken bytes c h
+is_read a_plant bytes p h = plant_text_read bytes p h
+is_read a_certificate bytes c h = h
+is_read an_ellipsoid bytes o h = h
 
-plant_stopped : (old new : FilesSeen) (name bytes : List ℕ) (why : Stop) → old.held name ≡ Some bytes → IsUnread file.Plant IsPlantFault old new name why → PlantComes bytes (Err why) ⊎ IsLost (Err why)
-plant_stopped old new name bytes (stop.FileRefused w text.NoMemory) e h = absurd h
-plant_stopped old new name bytes (stop.FileRefused w r) e h =
-    let k = told (λ came. (length came ≤ longest_file) × IsPlantFault came r) bytes (old.held name) e h.1 in
-    inl (inr (r, k.0, k.1, ap (λ x. stop.FileRefused x r) h.0))
-plant_stopped old new name bytes (stop.FileTooLong w) e h = inl (inl (told (λ came. longest_file < length came) bytes (old.held name) e h.1, ap stop.FileTooLong h.0))
-plant_stopped old new name bytes (stop.ReadFault w) e h = inr tt
-plant_stopped old new name bytes stop.NoMemory e h = inr tt
-plant_stopped old new name bytes why e h = absurd h
+by_fault : (came : FileRefusal → Type 0) (which : WhichFile) (why : Stop) → IsRefusedBy came which why → (r : FileRefusal) × came r × (why ≡ stop.FileRefused which r)
+by_fault came which (stop.FileRefused w text.NoMemory) h = absurd h
+by_fault came which (stop.FileRefused w r) h = (r, h.1, ap (λ x. stop.FileRefused x r) h.0)
+by_fault came which why h = absurd h
 
-abbrev StatesCome : List ℕ → Result StateFileView Stop → Type 0
-StatesCome = Comes longest_file state_of (stop.FileTooLong file.Controller) stop.StateRefused
+is_refused : (kind : FileKind) (bytes : List ℕ) (why : Stop) → IsFaulty kind bytes why → (r : Fault kind) × (reading_of kind bytes ≡ Err r) × (why ≡ refusal_of kind r)
+is_refused a_controller bytes why h = by_fault (λ r. reading bytes ≡ Err r) file.Controller why h
+is_refused (a_section section) bytes why h = by_fault (λ r. reading bytes ≡ Err r) (file.Section section) why h
+is_refused a_plant bytes why h = by_fault (λ r. plant_reading bytes ≡ Err r) file.Plant why h
+is_refused a_state_controller bytes (stop.StateRefused r) h = (r, h, refl)
+is_refused a_state_controller bytes why h = absurd h
+is_refused a_certificate bytes (stop.CertificateRefused line (fault.Text r)) h = (unread.Text line r, h, refl)
+is_refused a_certificate bytes why h = absurd h
+is_refused an_ellipsoid bytes (stop.EllipsoidText r) h = (r, h, refl)
+is_refused an_ellipsoid bytes why h = absurd h
 
-states_read : (old : FilesSeen) (name bytes : List ℕ) (c : StateFileView) → old.held name ≡ Some bytes → IsStatesFileOf old name c → StatesCome bytes (Ok c)
-states_read old name bytes c e h =
-    let k = told (λ came. IsStateController came c) bytes (old.held name) e h in
-    (k.short, state_taken bytes c k.text)
+file_read : (kind : FileKind) (old : FilesSeen) (name bytes : List ℕ) (x : Content kind) → old.held name ≡ Some bytes → IsFileOf kind old name x → ComesAs kind bytes (Ok x)
+file_read kind old name bytes x e h =
+    let k = told (λ came. (length came ≤ limit_of (which_of kind)) × IsText kind came x) bytes (old.held name) e h in
+    (k.0, is_read kind bytes x k.1)
 
-states_stopped : (old new : FilesSeen) (name bytes : List ℕ) (why : Stop) → old.held name ≡ Some bytes → IsStatesUnread old new name why → StatesCome bytes (Err why) ⊎ IsLost (Err why)
-states_stopped old new name bytes (stop.StateRefused r) e h =
-    let k = told (λ came. (length came ≤ longest_file) × (state_of came ≡ Err r)) bytes (old.held name) e h in
-    inl (inr (r, k.0, k.1, refl))
-states_stopped old new name bytes (stop.FileTooLong file.Controller) e h = inl (inl (told (λ came. longest_file < length came) bytes (old.held name) e h.0, refl))
-states_stopped old new name bytes (stop.ReadFault which) e h = inr tt
-states_stopped old new name bytes stop.NoMemory e h = inr tt
-states_stopped old new name bytes why e h = absurd h
+none_stopped : (old new : FilesSeen) (name bytes : List ℕ) (which : WhichFile) (why : Stop) → old.held name ≡ Some bytes → NoneCame old new name which why → ((limit_of which < length bytes) × (why ≡ too_long_of which)) ⊎ IsLost (Err why)
+none_stopped old new name bytes which (stop.ReadFault w) e h = inr tt
+none_stopped old new name bytes which stop.NoMemory e h = inr tt
+none_stopped old new name bytes which why e h = inl (told (λ came. limit_of which < length came) bytes (old.held name) e h.1, h.0)
 
--- the refusal of a certificate's text
-abbrev certificate_stop : CertRefusal → Stop
-certificate_stop (unread.Text line why) = stop.CertificateRefused line (fault.Text why)
-certificate_stop unread.NoMemory = stop.NoMemory
-
-abbrev CertificateComes : List ℕ → Result Certificate Stop → Type 0
-CertificateComes = Comes longest_certificate certificate_in (stop.CertificateRefused 0 fault.TooLong) certificate_stop
-
-certificate_read : (old : FilesSeen) (name bytes : List ℕ) (c : Certificate) → old.held name ≡ Some bytes → IsCertificateOf old name c → CertificateComes bytes (Ok c)
-certificate_read old name bytes c e h =
-    let k = told (λ came. IsSpelled came c) bytes (old.held name) e h in
-    (k.short, k.spelled)
-
-certificate_stopped : (old new : FilesSeen) (name bytes : List ℕ) (why : Stop) → old.held name ≡ Some bytes → IsUnreadCertificate old new name why → CertificateComes bytes (Err why) ⊎ IsLost (Err why)
-certificate_stopped old new name bytes (stop.CertificateRefused line fault.TooLong) e h =
-    inl (inl (told (λ came. longest_certificate < length came) bytes (old.held name) e h.1, ap (λ n. stop.CertificateRefused n fault.TooLong) h.0))
-certificate_stopped old new name bytes (stop.CertificateRefused line (fault.Text r)) e h =
-    let k = told (λ came. (length came ≤ longest_certificate) × (certificate_in came ≡ Err (unread.Text line r))) bytes (old.held name) e h in
-    inl (inr (unread.Text line r, k.0, k.1, refl))
-certificate_stopped old new name bytes (stop.ReadFault which) e h = inr tt
-certificate_stopped old new name bytes stop.NoMemory e h = inr tt
-certificate_stopped old new name bytes why e h = absurd h
-
-abbrev OfferComes : List ℕ → Result Ellipsoid Stop → Type 0
-OfferComes = Comes longest_certificate ellipsoid_in (stop.CertificateRefused 0 fault.TooLong) stop.EllipsoidText
-
-offer_read : (old : FilesSeen) (name bytes : List ℕ) (o : Ellipsoid) → old.held name ≡ Some bytes → IsOfferOf old name o → OfferComes bytes (Ok o)
-offer_read old name bytes o e h =
-    let k = told (λ came. IsOffer came o) bytes (old.held name) e h in
-    (k.short, k.spelled)
-
-offer_stopped : (old new : FilesSeen) (name bytes : List ℕ) (why : Stop) → old.held name ≡ Some bytes → IsUnreadOffer old new name why → OfferComes bytes (Err why) ⊎ IsLost (Err why)
-offer_stopped old new name bytes (stop.CertificateRefused line fault.TooLong) e h =
-    inl (inl (told (λ came. longest_certificate < length came) bytes (old.held name) e h.1, ap (λ n. stop.CertificateRefused n fault.TooLong) h.0))
-offer_stopped old new name bytes (stop.EllipsoidText r) e h =
-    let k = told (λ came. (length came ≤ longest_certificate) × (ellipsoid_in came ≡ Err r)) bytes (old.held name) e h in
-    inl (inr (r, k.0, k.1, refl))
-offer_stopped old new name bytes (stop.ReadFault which) e h = inr tt
-offer_stopped old new name bytes stop.NoMemory e h = inr tt
-offer_stopped old new name bytes why e h = absurd h
+-- its bytes are too many, or have a fault, or the run is lost
+file_stopped : (kind : FileKind) (old new : FilesSeen) (name bytes : List ℕ) (why : Stop) → old.held name ≡ Some bytes → IsUnread kind old new name why → ComesAs kind bytes (Err why) ⊎ IsLost (Err why)
+file_stopped kind old new name bytes why e (inl h) = stops (none_stopped old new name bytes (which_of kind) why e h)
+  where
+    stops : ((limit_of (which_of kind) < length bytes) × (why ≡ too_long_of (which_of kind))) ⊎ IsLost (Err why) → ComesAs kind bytes (Err why) ⊎ IsLost (Err why)
+    stops (inl k) = inl (inl k)
+    stops (inr k) = inr k
+file_stopped kind old new name bytes why e (inr h) =
+    let k = told (λ came. (length came ≤ limit_of (which_of kind)) × IsFaulty kind came why) bytes (old.held name) e h in
+    let r = is_refused kind bytes why k.1 in
+    inl (inr (r.0, k.0, r.1, r.2))
 
 -- ---- two runs over one file
 -- it is read, or stops a run
@@ -218,23 +193,18 @@ same_back old then_old (plant_loop name plant) same = ((same.0.0, same.0.2, same
 same_back old then_old (cascade name later) same = ((same.0.0, same.0.2, same.0.1), names_same_back old then_old later later same.1)
 same_back old then_old (cascade_loop name later plant) same = ((same.0.0, same.0.2, same.0.1), names_same_back old then_old later later same.1, (same.2.0, same.2.2, same.2.1))
 
-pub one_controller : (old then_old : FilesSeen) (name other : List ℕ) (c d : ControllerView) → HoldsTheSame old name then_old other → IsFileOf old name c → IsFileOf then_old other d → c ≡ d
-one_controller old then_old name other c d same h k = read_once (reading same.0) c d (controller_read file.Controller old name same.0 c same.1 h).1 (controller_read file.Controller then_old other same.0 d same.2 k).1
+pub one_file : (kind : FileKind) (old then_old : FilesSeen) (name other : List ℕ) (x y : Content kind) → HoldsTheSame old name then_old other → IsFileOf kind old name x → IsFileOf kind then_old other y → x ≡ y
+one_file kind old then_old name other x y same h k = read_once (reading_of kind same.0) x y (file_read kind old name same.0 x same.1 h).1 (file_read kind then_old other same.0 y same.2 k).1
 
-pub one_plant : (old then_old : FilesSeen) (name other : List ℕ) (p q : PlantView) → HoldsTheSame old name then_old other → IsPlantFileOf old name p → IsPlantFileOf then_old other q → p ≡ q
-one_plant old then_old name other p q same h k = read_once (plant_reading same.0) p q (plant_read old name same.0 p same.1 h).1 (plant_read then_old other same.0 q same.2 k).1
-
-pub one_states : (old then_old : FilesSeen) (name other : List ℕ) (c d : StateFileView) → HoldsTheSame old name then_old other → IsStatesFileOf old name c → IsStatesFileOf then_old other d → c ≡ d
-one_states old then_old name other c d same h k = read_once (state_of same.0) c d (states_read old name same.0 c same.1 h).1 (states_read then_old other same.0 d same.2 k).1
-
-pub controller_lost : (which : WhichFile) (old then_old then_new : FilesSeen) (name other : List ℕ) (c : ControllerView) (why : Stop) → HoldsTheSame old name then_old other → IsFileOf old name c → IsUnread which IsFaultOf then_old then_new other why
+-- a file that is of its kind stops no run
+pub file_lost : (kind : FileKind) (old then_old then_new : FilesSeen) (name other : List ℕ) (x : Content kind) (why : Stop) → HoldsTheSame old name then_old other → IsFileOf kind old name x → IsUnread kind then_old then_new other why
     → IsLost (Err why)
-controller_lost which old then_old then_new name other c why same h k =
-    lost_if_read longest_file reading (stop.FileTooLong which) (stop.FileRefused which) same.0 c why (controller_read which old name same.0 c same.1 h) (controller_stopped which then_old then_new other same.0 why same.2 k)
+file_lost kind old then_old then_new name other x why same h k =
+    lost_if_read (limit_of (which_of kind)) (reading_of kind) (too_long_of (which_of kind)) (refusal_of kind) same.0 x why (file_read kind old name same.0 x same.1 h) (file_stopped kind then_old then_new other same.0 why same.2 k)
 
-controller_one : (which : WhichFile) (old new then_old then_new : FilesSeen) (name : List ℕ) (v w : Stop) → HoldsTheSame old name then_old name → IsUnread which IsFaultOf old new name v → IsUnread which IsFaultOf then_old then_new name w → AreOne v w
-controller_one which old new then_old then_new name v w same h k =
-    one_if_stopped longest_file reading (stop.FileTooLong which) (stop.FileRefused which) same.0 v w (controller_stopped which old new name same.0 v same.1 h) (controller_stopped which then_old then_new name same.0 w same.2 k)
+file_one : (kind : FileKind) (old new then_old then_new : FilesSeen) (name : List ℕ) (v w : Stop) → HoldsTheSame old name then_old name → IsUnread kind old new name v → IsUnread kind then_old then_new name w → AreOne v w
+file_one kind old new then_old then_new name v w same h k =
+    one_if_stopped (limit_of (which_of kind)) (reading_of kind) (too_long_of (which_of kind)) (refusal_of kind) same.0 v w (file_stopped kind old new name same.0 v same.1 h) (file_stopped kind then_old then_new name same.0 w same.2 k)
 
 -- ---- files of later sections
 name_once : {A : Type 0} → (a b : A) → Some a ≡ Some b → a ≡ b
@@ -252,11 +222,11 @@ sections_once old then_old [] [] (d ∷ ds) same h k = absurd k
 sections_once old then_old (n ∷ names) [] ds same h k = absurd h
 sections_once old then_old (n ∷ names) (c ∷ cs) [] same h k = absurd k
 sections_once old then_old (n ∷ names) (c ∷ cs) (d ∷ ds) same h k =
-    ap (λ x. x ∷ cs) (one_controller old then_old n n c d same.0 h.0 k.0) ∙ ap (λ xs. d ∷ xs) (sections_once old then_old names cs ds same.1 h.1 k.1)
+    ap (λ x. x ∷ cs) (one_file a_controller old then_old n n c d same.0 h.0 k.0) ∙ ap (λ xs. d ∷ xs) (sections_once old then_old names cs ds same.1 h.1 k.1)
 
 -- a later file that is no controller's, and those before it are
 abbrev LaterStop : FilesSeen → FilesSeen → List (List ℕ) → Stop → Type 0
-LaterStop old new names why = (i : ℕ) × (name : List ℕ) × (slice_get names i ≡ Some name) × (before : List ControllerView) × AreControllers old (take i names) before × IsUnread (file.Section (suc i)) IsFaultOf old new name why
+LaterStop old new names why = (i : ℕ) × (name : List ℕ) × (slice_get names i ≡ Some name) × (before : List ControllerView) × AreControllers old (take i names) before × IsUnread (a_section (suc i)) old new name why
 
 later_stopped : (old new : FilesSeen) (names : List (List ℕ)) (why : Stop) → IsLaterUnread old new names why → LaterStop old new names why ⊎ IsLost (Err why)
 later_stopped old new names stop.NoMemory h = inr tt
@@ -266,26 +236,26 @@ stop_lost : (old then_old then_new : FilesSeen) (names : List (List ℕ)) (cs : 
     → IsLost (Err why)
 stop_lost old then_old then_new names cs why same h (inr k) = k
 stop_lost old then_old then_new names cs why same h (inl (i, name, at, before, controllers, k)) =
-    let p = pair_at (IsFileOf old) names cs i name at h in
-    controller_lost (file.Section (suc i)) old then_old then_new name name p.0 why (same_at old then_old names i name at same) p.1 k
+    let p = pair_at (IsFileOf a_controller old) names cs i name at h in
+    file_lost (a_section (suc i)) old then_old then_new name name p.0 why (same_at old then_old names i name at same) p.1 k
 
 later_lost : (old then_old then_new : FilesSeen) (names : List (List ℕ)) (cs : List ControllerView) (why : Stop) → AreTheSame old names then_old names → AreControllers old names cs → IsLaterUnread then_old then_new names why → IsLost (Err why)
 later_lost old then_old then_new names cs why same h k = stop_lost old then_old then_new names cs why same h (later_stopped then_old then_new names why k)
 
 stops_one : (old new then_old then_new : FilesSeen) (names : List (List ℕ)) (v w : Stop) (i j : ℕ) (m n : List ℕ) (bs ds : List ControllerView) → AreTheSame old names then_old names
-    → slice_get names i ≡ Some m → AreControllers old (take i names) bs → IsUnread (file.Section (suc i)) IsFaultOf old new m v
-    → slice_get names j ≡ Some n → AreControllers then_old (take j names) ds → IsUnread (file.Section (suc j)) IsFaultOf then_old then_new n w → (i ≡ j) ⊎ ((i < j) ⊎ (j < i)) → AreOne v w
+    → slice_get names i ≡ Some m → AreControllers old (take i names) bs → IsUnread (a_section (suc i)) old new m v
+    → slice_get names j ≡ Some n → AreControllers then_old (take j names) ds → IsUnread (a_section (suc j)) then_old then_new n w → (i ≡ j) ⊎ ((i < j) ⊎ (j < i)) → AreOne v w
 stops_one old new then_old then_new names v w i j m n bs ds same at before h there then_before k (inl e) =
     let there_i : slice_get names i ≡ Some n = rw e there in
     let one : m ≡ n = name_once m n (sym at ∙ there_i) in
-    controller_one (file.Section (suc i)) old new then_old then_new n v w (same_at old then_old names i n there_i same) (subst (λ x. IsUnread (file.Section (suc i)) IsFaultOf old new x v) one h) (subst (λ x. IsUnread (file.Section (suc x)) IsFaultOf then_old then_new n w) (sym e) k)
+    file_one (a_section (suc i)) old new then_old then_new n v w (same_at old then_old names i n there_i same) (subst (λ x. IsUnread (a_section (suc i)) old new x v) one h) (subst (λ x. IsUnread (a_section (suc x)) then_old then_new n w) (sym e) k)
 stops_one old new then_old then_new names v w i j m n bs ds same at before h there then_before k (inr (inl l)) =
-    let p = pair_before (IsFileOf then_old) names ds i j m at l then_before in
+    let p = pair_before (IsFileOf a_controller then_old) names ds i j m at l then_before in
     let s = same_at old then_old names i m at same in
-    inr (inl (controller_lost (file.Section (suc i)) then_old old new m m p.0 v (s.0, s.2, s.1) p.1 h))
+    inr (inl (file_lost (a_section (suc i)) then_old old new m m p.0 v (s.0, s.2, s.1) p.1 h))
 stops_one old new then_old then_new names v w i j m n bs ds same at before h there then_before k (inr (inr l)) =
-    let p = pair_before (IsFileOf old) names bs j i n there l before in
-    inr (inr (controller_lost (file.Section (suc j)) old then_old then_new n n p.0 w (same_at old then_old names j n there same) p.1 k))
+    let p = pair_before (IsFileOf a_controller old) names bs j i n there l before in
+    inr (inr (file_lost (a_section (suc j)) old then_old then_new n n p.0 w (same_at old then_old names j n there same) p.1 k))
 
 stop_once : (old new then_old then_new : FilesSeen) (names : List (List ℕ)) (v w : Stop) → AreTheSame old names then_old names → LaterStop old new names v ⊎ IsLost (Err v) → LaterStop then_old then_new names w ⊎ IsLost (Err w) → AreOne v w
 stop_once old new then_old then_new names v w same (inr h) k = inr (inl h)
@@ -297,109 +267,76 @@ later_once : (old new then_old then_new : FilesSeen) (names : List (List ℕ)) (
 later_once old new then_old then_new names v w same h k = stop_once old new then_old then_new names v w same (later_stopped old new names v h) (later_stopped then_old then_new names w k)
 
 pub texts_once : (old then_old : FilesSeen) (files : JobFiles) (t u : JobTexts) → HoldTheSame old files then_old files → HaveTexts old files t → HaveTexts then_old files u → t ≡ u
-texts_once old then_old (controller name) (of_one c) (of_one d) same h k = ap of_one (one_controller old then_old name name c d same h k)
+texts_once old then_old (controller name) (of_one c) (of_one d) same h k = ap of_one (one_file a_controller old then_old name name c d same h k)
 texts_once old then_old (controller name) (of_one c) u same h k = absurd k
 texts_once old then_old (controller name) t u same h k = absurd h
-texts_once old then_old (table_states name) (of_state_file c) (of_state_file d) same h k = ap of_state_file (one_states old then_old name name c d same h k)
+texts_once old then_old (table_states name) (of_state_file c) (of_state_file d) same h k = ap of_state_file (one_file a_state_controller old then_old name name c d same h k)
 texts_once old then_old (table_states name) (of_state_file c) u same h k = absurd k
 texts_once old then_old (table_states name) t u same h k = absurd h
 texts_once old then_old (plant_loop name plant) (with_plant c p) (with_plant d q) same h k =
-    ap (λ x. with_plant x p) (one_controller old then_old name name c d same.0 h.0 k.0) ∙ ap (with_plant d) (one_plant old then_old plant plant p q same.1 h.1 k.1)
+    ap (λ x. with_plant x p) (one_file a_controller old then_old name name c d same.0 h.0 k.0) ∙ ap (with_plant d) (one_file a_plant old then_old plant plant p q same.1 h.1 k.1)
 texts_once old then_old (plant_loop name plant) (with_plant c p) u same h k = absurd k
 texts_once old then_old (plant_loop name plant) t u same h k = absurd h
 texts_once old then_old (cascade name later) (of_sections c cs) (of_sections d ds) same h k =
-    ap (λ x. of_sections x cs) (one_controller old then_old name name c d same.0 h.0 k.0) ∙ ap (of_sections d) (sections_once old then_old later cs ds same.1 h.1 k.1)
+    ap (λ x. of_sections x cs) (one_file a_controller old then_old name name c d same.0 h.0 k.0) ∙ ap (of_sections d) (sections_once old then_old later cs ds same.1 h.1 k.1)
 texts_once old then_old (cascade name later) (of_sections c cs) u same h k = absurd k
 texts_once old then_old (cascade name later) t u same h k = absurd h
 texts_once old then_old (cascade_loop name later plant) (sections_with_plant c cs p) (sections_with_plant d ds q) same h k =
-    ap (λ x. sections_with_plant x cs p) (one_controller old then_old name name c d same.0 h.0 k.0) ∙ ap (λ xs. sections_with_plant d xs p) (sections_once old then_old later cs ds same.1 h.1 k.1)
-    ∙ ap (sections_with_plant d ds) (one_plant old then_old plant plant p q same.2 h.2 k.2)
+    ap (λ x. sections_with_plant x cs p) (one_file a_controller old then_old name name c d same.0 h.0 k.0) ∙ ap (λ xs. sections_with_plant d xs p) (sections_once old then_old later cs ds same.1 h.1 k.1)
+    ∙ ap (sections_with_plant d ds) (one_file a_plant old then_old plant plant p q same.2 h.2 k.2)
 texts_once old then_old (cascade_loop name later plant) (sections_with_plant c cs p) u same h k = absurd k
 texts_once old then_old (cascade_loop name later plant) t u same h k = absurd h
 
-pub plant_lost : (old then_old then_new : FilesSeen) (name other : List ℕ) (p : PlantView) (why : Stop) → HoldsTheSame old name then_old other → IsPlantFileOf old name p → IsUnread file.Plant IsPlantFault then_old then_new other why → IsLost (Err why)
-plant_lost old then_old then_new name other p why same h k =
-    lost_if_read longest_file plant_reading (stop.FileTooLong file.Plant) (stop.FileRefused file.Plant) same.0 p why (plant_read old name same.0 p same.1 h) (plant_stopped then_old then_new other same.0 why same.2 k)
-
-pub states_lost : (old then_old then_new : FilesSeen) (name other : List ℕ) (c : StateFileView) (why : Stop) → HoldsTheSame old name then_old other → IsStatesFileOf old name c → IsStatesUnread then_old then_new other why → IsLost (Err why)
-states_lost old then_old then_new name other c why same h k =
-    lost_if_read longest_file state_of (stop.FileTooLong file.Controller) stop.StateRefused same.0 c why (states_read old name same.0 c same.1 h) (states_stopped then_old then_new other same.0 why same.2 k)
-
 -- files that have their texts stop no run
 texts_lost : (old then_old then_new : FilesSeen) (files : JobFiles) (t : JobTexts) (why : Stop) → HoldTheSame old files then_old files → HaveTexts old files t → AreUnread then_old then_new files why → IsLost (Err why)
-texts_lost old then_old then_new (controller name) (of_one c) why same h k = controller_lost file.Controller old then_old then_new name name c why same h k
+texts_lost old then_old then_new (controller name) (of_one c) why same h k = file_lost a_controller old then_old then_new name name c why same h k
 texts_lost old then_old then_new (controller name) t why same h k = absurd h
-texts_lost old then_old then_new (table_states name) (of_state_file c) why same h k = states_lost old then_old then_new name name c why same h k
+texts_lost old then_old then_new (table_states name) (of_state_file c) why same h k = file_lost a_state_controller old then_old then_new name name c why same h k
 texts_lost old then_old then_new (table_states name) t why same h k = absurd h
-texts_lost old then_old then_new (plant_loop name plant) (with_plant c p) why same h (inl k) = controller_lost file.Controller old then_old then_new name name c why same.0 h.0 k
-texts_lost old then_old then_new (plant_loop name plant) (with_plant c p) why same h (inr k) = plant_lost old then_old then_new plant plant p why same.1 h.1 k.2
+texts_lost old then_old then_new (plant_loop name plant) (with_plant c p) why same h (inl k) = file_lost a_controller old then_old then_new name name c why same.0 h.0 k
+texts_lost old then_old then_new (plant_loop name plant) (with_plant c p) why same h (inr k) = file_lost a_plant old then_old then_new plant plant p why same.1 h.1 k.2
 texts_lost old then_old then_new (plant_loop name plant) t why same h k = absurd h
-texts_lost old then_old then_new (cascade name later) (of_sections c cs) why same h (inl k) = controller_lost file.Controller old then_old then_new name name c why same.0 h.0 k
+texts_lost old then_old then_new (cascade name later) (of_sections c cs) why same h (inl k) = file_lost a_controller old then_old then_new name name c why same.0 h.0 k
 texts_lost old then_old then_new (cascade name later) (of_sections c cs) why same h (inr k) = later_lost old then_old then_new later cs why same.1 h.1 k.2
 texts_lost old then_old then_new (cascade name later) t why same h k = absurd h
-texts_lost old then_old then_new (cascade_loop name later plant) (sections_with_plant c cs p) why same h (inl k) = controller_lost file.Controller old then_old then_new name name c why same.0 h.0 k
+texts_lost old then_old then_new (cascade_loop name later plant) (sections_with_plant c cs p) why same h (inl k) = file_lost a_controller old then_old then_new name name c why same.0 h.0 k
 texts_lost old then_old then_new (cascade_loop name later plant) (sections_with_plant c cs p) why same h (inr (inl k)) = later_lost old then_old then_new later cs why same.1 h.1 k.2
-texts_lost old then_old then_new (cascade_loop name later plant) (sections_with_plant c cs p) why same h (inr (inr k)) = plant_lost old then_old then_new plant plant p why same.2 h.2 k.4
+texts_lost old then_old then_new (cascade_loop name later plant) (sections_with_plant c cs p) why same h (inr (inr k)) = file_lost a_plant old then_old then_new plant plant p why same.2 h.2 k.4
 texts_lost old then_old then_new (cascade_loop name later plant) t why same h k = absurd h
 
-plant_one : (old new then_old then_new : FilesSeen) (name : List ℕ) (v w : Stop) → HoldsTheSame old name then_old name → IsUnread file.Plant IsPlantFault old new name v → IsUnread file.Plant IsPlantFault then_old then_new name w → AreOne v w
-plant_one old new then_old then_new name v w same h k =
-    one_if_stopped longest_file plant_reading (stop.FileTooLong file.Plant) (stop.FileRefused file.Plant) same.0 v w (plant_stopped old new name same.0 v same.1 h) (plant_stopped then_old then_new name same.0 w same.2 k)
-
-states_one : (old new then_old then_new : FilesSeen) (name : List ℕ) (v w : Stop) → HoldsTheSame old name then_old name → IsStatesUnread old new name v → IsStatesUnread then_old then_new name w → AreOne v w
-states_one old new then_old then_new name v w same h k =
-    one_if_stopped longest_file state_of (stop.FileTooLong file.Controller) stop.StateRefused same.0 v w (states_stopped old new name same.0 v same.1 h) (states_stopped then_old then_new name same.0 w same.2 k)
-
 unread_once : (old new then_old then_new : FilesSeen) (files : JobFiles) (v w : Stop) → HoldTheSame old files then_old files → AreUnread old new files v → AreUnread then_old then_new files w → AreOne v w
-unread_once old new then_old then_new (controller name) v w same h k = controller_one file.Controller old new then_old then_new name v w same h k
-unread_once old new then_old then_new (table_states name) v w same h k = states_one old new then_old then_new name v w same h k
-unread_once old new then_old then_new (plant_loop name plant) v w same (inl h) (inl k) = controller_one file.Controller old new then_old then_new name v w same.0 h k
+unread_once old new then_old then_new (controller name) v w same h k = file_one a_controller old new then_old then_new name v w same h k
+unread_once old new then_old then_new (table_states name) v w same h k = file_one a_state_controller old new then_old then_new name v w same h k
+unread_once old new then_old then_new (plant_loop name plant) v w same (inl h) (inl k) = file_one a_controller old new then_old then_new name v w same.0 h k
 unread_once old new then_old then_new (plant_loop name plant) v w same (inl h) (inr k) =
-    inr (inl (controller_lost file.Controller then_old old new name name k.0 v (same.0.0, same.0.2, same.0.1) k.1 h))
-unread_once old new then_old then_new (plant_loop name plant) v w same (inr h) (inl k) = inr (inr (controller_lost file.Controller old then_old then_new name name h.0 w same.0 h.1 k))
-unread_once old new then_old then_new (plant_loop name plant) v w same (inr h) (inr k) = plant_one old new then_old then_new plant v w same.1 h.2 k.2
-unread_once old new then_old then_new (cascade name later) v w same (inl h) (inl k) = controller_one file.Controller old new then_old then_new name v w same.0 h k
-unread_once old new then_old then_new (cascade name later) v w same (inl h) (inr k) = inr (inl (controller_lost file.Controller then_old old new name name k.0 v (same.0.0, same.0.2, same.0.1) k.1 h))
-unread_once old new then_old then_new (cascade name later) v w same (inr h) (inl k) = inr (inr (controller_lost file.Controller old then_old then_new name name h.0 w same.0 h.1 k))
+    inr (inl (file_lost a_controller then_old old new name name k.0 v (same.0.0, same.0.2, same.0.1) k.1 h))
+unread_once old new then_old then_new (plant_loop name plant) v w same (inr h) (inl k) = inr (inr (file_lost a_controller old then_old then_new name name h.0 w same.0 h.1 k))
+unread_once old new then_old then_new (plant_loop name plant) v w same (inr h) (inr k) = file_one a_plant old new then_old then_new plant v w same.1 h.2 k.2
+unread_once old new then_old then_new (cascade name later) v w same (inl h) (inl k) = file_one a_controller old new then_old then_new name v w same.0 h k
+unread_once old new then_old then_new (cascade name later) v w same (inl h) (inr k) = inr (inl (file_lost a_controller then_old old new name name k.0 v (same.0.0, same.0.2, same.0.1) k.1 h))
+unread_once old new then_old then_new (cascade name later) v w same (inr h) (inl k) = inr (inr (file_lost a_controller old then_old then_new name name h.0 w same.0 h.1 k))
 unread_once old new then_old then_new (cascade name later) v w same (inr h) (inr k) = later_once old new then_old then_new later v w same.1 h.2 k.2
-unread_once old new then_old then_new (cascade_loop name later plant) v w same (inl h) (inl k) = controller_one file.Controller old new then_old then_new name v w same.0 h k
-unread_once old new then_old then_new (cascade_loop name later plant) v w same (inl h) (inr (inl k)) = inr (inl (controller_lost file.Controller then_old old new name name k.0 v (same.0.0, same.0.2, same.0.1) k.1 h))
-unread_once old new then_old then_new (cascade_loop name later plant) v w same (inl h) (inr (inr k)) = inr (inl (controller_lost file.Controller then_old old new name name k.0 v (same.0.0, same.0.2, same.0.1) k.2 h))
-unread_once old new then_old then_new (cascade_loop name later plant) v w same (inr (inl h)) (inl k) = inr (inr (controller_lost file.Controller old then_old then_new name name h.0 w same.0 h.1 k))
-unread_once old new then_old then_new (cascade_loop name later plant) v w same (inr (inr h)) (inl k) = inr (inr (controller_lost file.Controller old then_old then_new name name h.0 w same.0 h.2 k))
+unread_once old new then_old then_new (cascade_loop name later plant) v w same (inl h) (inl k) = file_one a_controller old new then_old then_new name v w same.0 h k
+unread_once old new then_old then_new (cascade_loop name later plant) v w same (inl h) (inr (inl k)) = inr (inl (file_lost a_controller then_old old new name name k.0 v (same.0.0, same.0.2, same.0.1) k.1 h))
+unread_once old new then_old then_new (cascade_loop name later plant) v w same (inl h) (inr (inr k)) = inr (inl (file_lost a_controller then_old old new name name k.0 v (same.0.0, same.0.2, same.0.1) k.2 h))
+unread_once old new then_old then_new (cascade_loop name later plant) v w same (inr (inl h)) (inl k) = inr (inr (file_lost a_controller old then_old then_new name name h.0 w same.0 h.1 k))
+unread_once old new then_old then_new (cascade_loop name later plant) v w same (inr (inr h)) (inl k) = inr (inr (file_lost a_controller old then_old then_new name name h.0 w same.0 h.2 k))
 unread_once old new then_old then_new (cascade_loop name later plant) v w same (inr (inl h)) (inr (inl k)) = later_once old new then_old then_new later v w same.1 h.2 k.2
 unread_once old new then_old then_new (cascade_loop name later plant) v w same (inr (inl h)) (inr (inr k)) =
     inr (inl (later_lost then_old old new later k.1 v (names_same_back old then_old later later same.1) k.3 h.2))
 unread_once old new then_old then_new (cascade_loop name later plant) v w same (inr (inr h)) (inr (inl k)) = inr (inr (later_lost old then_old then_new later h.1 w same.1 h.3 k.2))
-unread_once old new then_old then_new (cascade_loop name later plant) v w same (inr (inr h)) (inr (inr k)) = plant_one old new then_old then_new plant v w same.2 h.4 k.4
-
--- ---- what a task names
-pub certificate_lost : (old then_old then_new : FilesSeen) (name : List ℕ) (c : Certificate) (why : Stop) → HoldsTheSame old name then_old name → IsCertificateOf old name c → IsUnreadCertificate then_old then_new name why → IsLost (Err why)
-certificate_lost old then_old then_new name c why same h k =
-    lost_if_read longest_certificate certificate_in (stop.CertificateRefused 0 fault.TooLong) certificate_stop same.0 c why (certificate_read old name same.0 c same.1 h) (certificate_stopped then_old then_new name same.0 why same.2 k)
-
-certificate_one : (old new then_old then_new : FilesSeen) (name : List ℕ) (v w : Stop) → HoldsTheSame old name then_old name → IsUnreadCertificate old new name v → IsUnreadCertificate then_old then_new name w → AreOne v w
-certificate_one old new then_old then_new name v w same h k =
-    one_if_stopped longest_certificate certificate_in (stop.CertificateRefused 0 fault.TooLong) certificate_stop same.0 v w (certificate_stopped old new name same.0 v same.1 h) (certificate_stopped then_old then_new name same.0 w same.2 k)
-
-offer_lost : (old then_old then_new : FilesSeen) (name : List ℕ) (o : Ellipsoid) (why : Stop) → HoldsTheSame old name then_old name → IsOfferOf old name o → IsUnreadOffer then_old then_new name why → IsLost (Err why)
-offer_lost old then_old then_new name o why same h k =
-    lost_if_read longest_certificate ellipsoid_in (stop.CertificateRefused 0 fault.TooLong) stop.EllipsoidText same.0 o why (offer_read old name same.0 o same.1 h) (offer_stopped then_old then_new name same.0 why same.2 k)
-
-offer_one : (old new then_old then_new : FilesSeen) (name : List ℕ) (v w : Stop) → HoldsTheSame old name then_old name → IsUnreadOffer old new name v → IsUnreadOffer then_old then_new name w → AreOne v w
-offer_one old new then_old then_new name v w same h k =
-    one_if_stopped longest_certificate ellipsoid_in (stop.CertificateRefused 0 fault.TooLong) stop.EllipsoidText same.0 v w (offer_stopped old new name same.0 v same.1 h) (offer_stopped then_old then_new name same.0 w same.2 k)
+unread_once old new then_old then_new (cascade_loop name later plant) v w same (inr (inr h)) (inr (inr k)) = file_one a_plant old new then_old then_new plant v w same.2 h.4 k.4
 
 evidence_lost : (old then_old then_new : FilesSeen) (task : Task) (e : Evidence) (why : Stop) → NamesTheSame old then_old task → HasEvidence old task e → IsEvidenceUnread then_old then_new task why → IsLost (Err why)
-evidence_lost old then_old then_new (checks_form name) (certificate c) why same h k = certificate_lost old then_old then_new name c why same h k
+evidence_lost old then_old then_new (checks_form name) (certificate c) why same h k = file_lost a_certificate old then_old then_new name name c why same h k
 evidence_lost old then_old then_new (checks_form name) e why same h k = absurd h
-evidence_lost old then_old then_new (checks_ellipsoid name) (ellipsoid o) why same h k = offer_lost old then_old then_new name o why same h k
+evidence_lost old then_old then_new (checks_ellipsoid name) (ellipsoid o) why same h k = file_lost an_ellipsoid old then_old then_new name name o why same h k
 evidence_lost old then_old then_new (checks_ellipsoid name) e why same h k = absurd h
 evidence_lost old then_old then_new task e why same h k = absurd k
 
 evidence_once : (old new then_old then_new : FilesSeen) (task : Task) (v w : Stop) → NamesTheSame old then_old task → IsEvidenceUnread old new task v → IsEvidenceUnread then_old then_new task w → AreOne v w
-evidence_once old new then_old then_new (checks_form name) v w same h k = certificate_one old new then_old then_new name v w same h k
-evidence_once old new then_old then_new (checks_ellipsoid name) v w same h k = offer_one old new then_old then_new name v w same h k
+evidence_once old new then_old then_new (checks_form name) v w same h k = file_one a_certificate old new then_old then_new name v w same h k
+evidence_once old new then_old then_new (checks_ellipsoid name) v w same h k = file_one an_ellipsoid old new then_old then_new name v w same h k
 evidence_once old new then_old then_new task v w same h k = absurd h
 
 names_back : (old then_old : FilesSeen) (task : Task) → NamesTheSame old then_old task → NamesTheSame then_old old task
@@ -555,11 +492,11 @@ wordless_once design (of_state_file c) v w h k = absurd h
 -- ---- evidence and words once
 pub evidence_same : (old then_old : FilesSeen) (task : Task) (e f : Evidence) → NamesTheSame old then_old task → HasEvidence old task e → HasEvidence then_old task f → e ≡ f
 evidence_same old then_old (checks_form name) (certificate c) (certificate d) same h k =
-    ap certificate (read_once (certificate_in same.0) c d (certificate_read old name same.0 c same.1 h).1 (certificate_read then_old name same.0 d same.2 k).1)
+    ap certificate (read_once (certificate_in same.0) c d (file_read a_certificate old name same.0 c same.1 h).1 (file_read a_certificate then_old name same.0 d same.2 k).1)
 evidence_same old then_old (checks_form name) (certificate c) f same h k = absurd k
 evidence_same old then_old (checks_form name) e f same h k = absurd h
 evidence_same old then_old (checks_ellipsoid name) (ellipsoid o) (ellipsoid p) same h k =
-    ap ellipsoid (read_once (ellipsoid_in same.0) o p (offer_read old name same.0 o same.1 h).1 (offer_read then_old name same.0 p same.2 k).1)
+    ap ellipsoid (read_once (ellipsoid_in same.0) o p (file_read an_ellipsoid old name same.0 o same.1 h).1 (file_read an_ellipsoid then_old name same.0 p same.2 k).1)
 evidence_same old then_old (checks_ellipsoid name) (ellipsoid o) f same h k = absurd k
 evidence_same old then_old (checks_ellipsoid name) e f same h k = absurd h
 evidence_same old then_old task none none same h k = refl
@@ -657,22 +594,22 @@ job_exact old new then_old then_new job why (Err w) same names kept (inl h) k =
 
 -- ---- checks of certificates
 abbrev Unchecked : FilesSeen → FilesSeen → JobFiles → List ℕ → Stop → Type 0
-Unchecked old new files name why = AreUnread old new files why ⊎ ((texts : JobTexts) × HaveTexts old files texts × IsUnreadCertificate old new name why)
+Unchecked old new files name why = AreUnread old new files why ⊎ ((texts : JobTexts) × HaveTexts old files texts × IsUnread a_certificate old new name why)
 
 checked_lost : (old new then_old : FilesSeen) (files : JobFiles) (name : List ℕ) (why : Stop) (found : Outcome) → HoldTheSame old files then_old files → HoldsTheSame old name then_old name → Unchecked old new files name why
     → IsCheckedBy then_old files name found → IsLost (Err why)
 checked_lost old new then_old files name why found same named (inl h) d = texts_lost then_old old new files d.texts why (same_back old then_old files same) d.have_texts h
-checked_lost old new then_old files name why found same named (inr h) d = certificate_lost then_old old new name d.written why (named.0, named.2, named.1) d.spelled h.2
+checked_lost old new then_old files name why found same named (inr h) d = file_lost a_certificate then_old old new name name d.written why (named.0, named.2, named.1) d.spelled h.2
 
 unchecked_once : (old new then_old then_new : FilesSeen) (files : JobFiles) (name : List ℕ) (v w : Stop) → HoldTheSame old files then_old files → HoldsTheSame old name then_old name → Unchecked old new files name v
     → Unchecked then_old then_new files name w → AreOne v w
 unchecked_once old new then_old then_new files name v w same named (inl h) (inl k) = unread_once old new then_old then_new files v w same h k
 unchecked_once old new then_old then_new files name v w same named (inl h) (inr k) = inr (inl (texts_lost then_old old new files k.0 v (same_back old then_old files same) k.1 h))
 unchecked_once old new then_old then_new files name v w same named (inr h) (inl k) = inr (inr (texts_lost old then_old then_new files h.0 w same h.1 k))
-unchecked_once old new then_old then_new files name v w same named (inr h) (inr k) = certificate_one old new then_old then_new name v w named h.2 k.2
+unchecked_once old new then_old then_new files name v w same named (inr h) (inr k) = file_one a_certificate old new then_old then_new name v w named h.2 k.2
 
-pub one_written : (old then_old : FilesSeen) (name : List ℕ) (c d : Certificate) → HoldsTheSame old name then_old name → IsCertificateOf old name c → IsCertificateOf then_old name d → c ≡ d
-one_written old then_old name c d same h k = read_once (certificate_in same.0) c d (certificate_read old name same.0 c same.1 h).1 (certificate_read then_old name same.0 d same.2 k).1
+pub one_written : (old then_old : FilesSeen) (name : List ℕ) (c d : Certificate) → HoldsTheSame old name then_old name → IsFileOf a_certificate old name c → IsFileOf a_certificate then_old name d → c ≡ d
+one_written old then_old name c d same h k = read_once (certificate_in same.0) c d (file_read a_certificate old name same.0 c same.1 h).1 (file_read a_certificate then_old name same.0 d same.2 k).1
 
 checked_exact : (old then_old : FilesSeen) (files : JobFiles) (name : List ℕ) (why : Stop) (found : Outcome) → HoldTheSame old files then_old files → HoldsTheSame old name then_old name → (IsLost (Err why) → ⊥)
     → IsCheckedBy old files name (Err why) → IsCheckedBy then_old files name found → IsThis why found

@@ -25,9 +25,9 @@ use Rattle.dsv_certfile.specs.Texts.{job_of}
 use Rattle.dsv_certfile.specs.declared.certificate.Certificate.{Certificate}
 use Rattle.dsv_certfile.specs.declared.ellipsoid.Ellipsoid.{Ellipsoid}
 use Rattle.dsv_certfile.specs.declared.fault.CheckFault.{CheckFault}
-use Rattle.dsv_certcheck.specs.Checks.{Checked, words_check, BecomesFor, IsFoundFor, IsFoundAfter, IsChecked, format_check}
+use Rattle.dsv_certcheck.specs.Checks.{Checked, format_check}
+use Rattle.dsv_certcheck.specs.Found.{found_of, BecomesFor, IsFoundFor, IsFoundAfter, IsChecked}
 use Rattle.dsv_certcheck.specs.StateChecks.{state_check}
-use Rattle.dsv_certcheck.specs.LoopChecks.{words_loop_check, IsLoopFoundFor, IsLoopFoundAfter, IsLoopChecked}
 use Rattle.dsv_certcheck.specs.declared.check_refusal.CheckRefusal.{CheckRefusal}
 use Rattle.dsv_certcheck.specs.declared.check_refusal.CheckRefusal.TheVariants as refusal
 use Rattle.dsv_command.specs.Table.{Task, decides, checks_time, writes, searches, seeks_set, measures_gain, simulates, checks_form, seeks_form, checks_ellipsoid, seeks_ellipsoid}
@@ -41,14 +41,15 @@ use Rattle.dsv_report.specs.Stops.{Outcome}
 use Rattle.dsv_cli.specs.Causes.{IsDecision, IsOfSets, IsOfTiming}
 use Rattle.dsv_cli.specs.Checking.{stop_of_check}
 use Rattle.dsv_cli.specs.Ellipsoids.{IsOfOffer, IsOfSoughtEllipsoid}
-use Rattle.dsv_cli.specs.Headline.{IsLost}
+use Rattle.dsv_cli.specs.Files.{IsLost}
 use Rattle.dsv_cli.specs.Gain.{IsOfGain}
-use Rattle.dsv_cli.specs.JobRows.{JobTexts, of_one, of_sections, of_state_file, with_plant, sections_with_plant, Evidence, certificate, ellipsoid, JobWords, of_words, of_series, of_state_words, subject_of, ErrorIs, IsOfSections, IsTaskDone, IsOfCheck}
+use Rattle.dsv_cli.specs.JobRows.{JobTexts, of_one, of_sections, of_state_file, with_plant, sections_with_plant, Evidence, certificate, ellipsoid, JobWords, of_words, of_series, of_state_words, subject_of, ErrorIs, IsOfSections, IsTaskDone, ChecksTo, IsOfCheck}
 use Rattle.dsv_cli.specs.Loops.{IsOfLoop}
 use Rattle.dsv_cli.specs.Searching.{IsOfFormula, IsOfSearch}
 use Rattle.dsv_cli.specs.Simulating.{IsOfRun}
 use Rattle.dsv_cli.specs.States.{IsOfForm, IsOfStateTable}
-use Rattle.dsv_cli.proofs.OneAnswerTasks.{at_place, one_outside, within_or_large}
+use Rattle.dsv_cli.proofs.OneAnswerTasks.{one_outside, within_or_large}
+use Rattle.dsv_cli.proofs.Pairwise.{at_place}
 
 abbrev pub stopped_by : Stop → Outcome
 stopped_by why = Err why
@@ -248,27 +249,18 @@ words_one become check x y once (checked q h c) (checked p k d) =
     let same : q ≡ p = read_words q p (Ok q) refl (once (Ok q) (Ok p) h k) in
     inl (sym c ∙ ap check same ∙ d)
 
-words_found : (c : ControllerView) (cert : Certificate) (x : Checked) → IsFoundFor c cert x → Words (BecomesFor c (job_of cert)) (λ q. words_check q cert) x
-words_found c cert (Err refusal.NoMemory) h = lost tt
-words_found c cert (Err (refusal.Quant r)) h = refused r refl h
-words_found c cert x h = checked h.quantised h.becomes h.checked
-
-loop_words_found : (c : ControllerView) (plant : PlantView) (cert : Certificate) (x : Checked) → IsLoopFoundFor c plant cert x → Words (BecomesFor c (job_of cert)) (λ q. words_loop_check q c.sample_time plant cert) x
-loop_words_found c plant cert (Err refusal.NoMemory) h = lost tt
-loop_words_found c plant cert (Err (refusal.Quant r)) h = refused r refl h
-loop_words_found c plant cert x h = checked h.quantised h.becomes h.checked
+words_found : (c : ControllerView) (plant : Option PlantView) (cert : Certificate) (x : Checked) → IsFoundFor c plant cert x → Words (BecomesFor c (job_of cert)) (λ q. found_of q c.sample_time plant cert) x
+words_found c plant cert (Err refusal.NoMemory) h = lost tt
+words_found c plant cert (Err (refusal.Quant r)) h = refused r refl h
+words_found c plant cert x h = checked h.quantised h.becomes h.checked
 
 become_once : (c : ControllerView) (cert : Certificate) (o p : Result QuantisedView QuantRefusal) → BecomesFor c (job_of cert) o → BecomesFor c (job_of cert) p → o ≡ p
 become_once c cert o p h k = become_one c c (job_of cert).design o p refl h k
 
-found_once : (came : Checked) (c : ControllerView) (cert : Certificate) (x y : Checked) → IsFoundAfter came c cert x → IsFoundAfter came c cert y → AreOneFinding x y
-found_once (Ok z) c cert x y h k = words_one (BecomesFor c (job_of cert)) (λ q. words_check q cert) x y (become_once c cert) (words_found c cert x h) (words_found c cert y k)
-found_once (Err why) c cert x y h k = inl (h ∙ sym k)
-
-loop_found_once : (came : Checked) (c : ControllerView) (plant : PlantView) (cert : Certificate) (x y : Checked) → IsLoopFoundAfter came c plant cert x → IsLoopFoundAfter came c plant cert y → AreOneFinding x y
-loop_found_once (Ok z) c plant cert x y h k =
-    words_one (BecomesFor c (job_of cert)) (λ q. words_loop_check q c.sample_time plant cert) x y (become_once c cert) (loop_words_found c plant cert x h) (loop_words_found c plant cert y k)
-loop_found_once (Err why) c plant cert x y h k = inl (h ∙ sym k)
+found_once : (came : Checked) (c : ControllerView) (plant : Option PlantView) (cert : Certificate) (x y : Checked) → IsFoundAfter came c plant cert x → IsFoundAfter came c plant cert y → AreOneFinding x y
+found_once (Ok z) c plant cert x y h k =
+    words_one (BecomesFor c (job_of cert)) (λ q. found_of q c.sample_time plant cert) x y (become_once c cert) (words_found c plant cert x h) (words_found c plant cert y k)
+found_once (Err why) c plant cert x y h k = inl (h ∙ sym k)
 
 -- what a refusal of a check stops
 lost_by : (r : CheckRefusal) (v : Stop) → NoMemoryFound (Err r) → v ≡ stop_of_check r → IsLost (Err v)
@@ -300,20 +292,18 @@ this_or_lost v w kept (inr (inl h)) = absurd (kept h)
 this_or_lost v w kept (inr (inr h)) = inr h
 
 -- what is checked is one finding
-pub checked_once_for : (c : ControllerView) (cert : Certificate) (x y : Checked) → IsChecked c cert x → IsChecked c cert y → AreOneFinding x y
-checked_once_for c cert x y h k = found_once (format_check c (job_of cert).words) c cert x y h k
+pub checked_once_for : (c : ControllerView) (plant : Option PlantView) (cert : Certificate) (x y : Checked) → IsChecked c plant cert x → IsChecked c plant cert y → AreOneFinding x y
+checked_once_for c plant cert x y h k = found_once (format_check c (job_of cert).words) c plant cert x y h k
 
-pub loop_once_for : (c : ControllerView) (plant : PlantView) (cert : Certificate) (x y : Checked) → IsLoopChecked c plant cert x → IsLoopChecked c plant cert y → AreOneFinding x y
-loop_once_for c plant cert x y h k = loop_found_once (format_check c (job_of cert).words) c plant cert x y h k
+checks_exact : (c : ControllerView) (plant : Option PlantView) (cert : Certificate) → IsExact (ChecksTo c plant cert)
+checks_exact c plant cert why (Ok (answer.Checked certified error)) (r, h, e) kept k = absurd (kept (ok_lost r why e (checked_once_for c plant cert (Err r) (Ok tt) h k.1)))
+checks_exact c plant cert why (Err w) (r, h, e) kept (s, k, f) = this_or_lost why w kept (stops_by r s why w e f (checked_once_for c plant cert (Err r) (Err s) h k))
+checks_exact c plant cert why found h kept k = absurd k
 
 pub check_exact : (texts : JobTexts) (cert : Certificate) → IsExact (IsOfCheck texts cert)
-check_exact (of_one c) cert why (Ok (answer.Checked certified error)) (r, h, e) kept k = absurd (kept (ok_lost r why e (checked_once_for c cert (Err r) (Ok tt) h k.1)))
-check_exact (of_one c) cert why (Err w) (r, h, e) kept (s, k, f) = this_or_lost why w kept (stops_by r s why w e f (checked_once_for c cert (Err r) (Err s) h k))
-check_exact (with_plant c p) cert why (Ok (answer.Checked certified error)) (r, h, e) kept k = absurd (kept (ok_lost r why e (loop_once_for c p cert (Err r) (Ok tt) h k.1)))
-check_exact (with_plant c p) cert why (Err w) (r, h, e) kept (s, k, f) = this_or_lost why w kept (stops_by r s why w e f (loop_once_for c p cert (Err r) (Err s) h k))
-check_exact (of_one c) cert why found h kept k = absurd k
-check_exact (with_plant c p) cert why found h kept k = absurd k
-check_exact texts cert why found h kept k = absurd h
+check_exact (of_one c) cert = checks_exact c None cert
+check_exact (with_plant c p) cert = checks_exact c (Some p) cert
+check_exact texts cert = λ why found h kept k. absurd h
 
 -- nor does a check
 no_stop_fault : (r : CheckRefusal) (which : WhichFile) → stop.ReadFault which ≡ stop_of_check r → ⊥

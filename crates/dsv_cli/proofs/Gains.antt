@@ -12,10 +12,11 @@ use Rattle.dsv_report.specs.declared.stop.Stop.TheVariants as stop
 use Rattle.dsv_report.specs.Stops.{Outcome}
 use Rattle.dsv_realise.specs.SubjectView.{SubjectView}
 use Rattle.dsv_cli.specs.Causes.{IsOfLeft}
-use Rattle.dsv_cli.specs.Gain.{IsGainOf, IsOfGain, most_gain_samples}
+use Rattle.dsv_cli.specs.Gain.{IsOfGain, most_gain_samples}
+use Rattle.dsv_gain.specs.Subjects.{IsGainOf}
 
 -- all ranges are ones of words
-pub safe_is : (s : SubjectView) (found : Outlook) (gain : Gain) → found ≡ outlook.Safe gain → found ≡ outlook_of s most_gain_samples → IfSafe found (λ g. HoldsAlways s g.ranges) → IfSafe found (λ g. NeverOverflows s) → IsGainOf s gain
+pub safe_is : (s : SubjectView) (found : Outlook) (gain : Gain) → found ≡ outlook.Safe gain → found ≡ outlook_of s most_gain_samples → IfSafe found (λ g. HoldsAlways s g.ranges) → IfSafe found (λ g. NeverOverflows s) → IsGainOf most_gain_samples s gain
 safe_is s found gain e made holds never = record { found = sym made ∙ e; holds = rw e at holds; never = rw e at never }
 
 -- some range leaves the words

@@ -13,7 +13,6 @@ pub mod ExactTasks
 pub mod FileBytes
 pub mod Gains
 pub mod Inputs
-pub mod LoopRows
 pub mod OfferedSets
 pub mod OneAnswerLemmas
 pub mod OneAnswerTasks
@@ -22,8 +21,9 @@ pub mod Pairwise
 pub mod RunRows
 pub mod SectionFiles
 pub mod Stages
-pub mod StateRows
 pub mod Suffixes
 pub mod Told
 pub mod Unasked
 pub mod Undecided
+pub mod OneForms
+pub mod OneSections

@@ -13,8 +13,8 @@ use Rattle.dsv_template.specs.declared.kept.KeptSet.{KeptSet}
 use Rattle.dsv_template.specs.declared.verdict.Why.{Why}
 use Rattle.dsv_template.specs.declared.verdict.Why.TheVariants as why
 use Rattle.dsv_invariant.specs.Causes.{IsCause}
-use Rattle.dsv_cli.specs.Sets.{IsGoodCause, IsNotGood, candidates, GaveUpOn, IsGoodSet, WereOffered}
-use Rattle.dsv_cli.specs.Blocks.{AreBlocks}
+use Rattle.dsv_invariant.specs.Sets.{IsGoodCause, IsNotGood, candidates, GaveUpOn, IsGoodSet, WereOffered}
+use Rattle.dsv_base.specs.Lists.{AreBlocks}
 use Rattle.dsv_cli.proofs.Blocks.{stands}
 
 -- ---- a candidate among those that were kept

@@ -1,12 +1,7 @@
 -- A task for a quantised controller has one answer.
-use Rattle.std.proofs.Common.{◌≡◌, ◌∙◌, ◌⊎◌, inl, inr, sym, ap, subst, refl, ℕ, ◌<◌, ◌≤◌, Bool, true, false, List, [], ◌∷◌, Some, take, arith}
-use Rattle.std.specs.Prelude.{IfSome, Result, Ok, Err, Some, slice_get}
-use Rattle.std.specs.List.{All}
+use Rattle.std.proofs.Common.{◌≡◌, ◌∙◌, ◌⊎◌, inl, inr, sym, ap, subst, refl, ℕ, ◌<◌, ◌≤◌, Bool, true, false, List, [], ◌∷◌, arith}
+use Rattle.std.specs.Prelude.{Result, Ok, Err, slice_get}
 use Rattle.std.proofs.Math.IntN.{ℤ}
-use Rattle.std.proofs.lemmas.Bool.{cases_lt}
-use Rattle.std.proofs.lemmas.List.{get_or-take, length-take}
-use Rattle.std.proofs.lemmas.Option.{get_or_from_slice_get, slice_get_within}
-use Rattle.dsv_algebra.specs.Vectors.{Vector, vector_of, matrix_of, form_at}
 use Rattle.dsv_word.specs.declared.format.Format.{Format}
 use Rattle.dsv_word.specs.Words.{IsWord}
 use Rattle.dsv_quantiser.specs.QuantisedView.{QuantisedView}
@@ -14,9 +9,6 @@ use Rattle.dsv_forms.specs.declared.offers.Form.{Form}
 use Rattle.dsv_forms.specs.declared.offers.Falls.{Falls}
 use Rattle.dsv_forms.specs.declared.offers.KeptAway.{KeptAway}
 use Rattle.dsv_forms.specs.declared.offers.FormOffer.TheVariants as offered
-use Rattle.dsv_forms.specs.FallForm.{IsFallForm}
-use Rattle.dsv_forms.specs.declared.offers.FormOffer.{FormOffer}
-use Rattle.dsv_closed_forms.specs.ClosedForm.{closed_form_of}
 use Rattle.dsv_delta.specs.declared.refusal.PolyWide.{PolyWide}
 use Rattle.dsv_tested.specs.Tested.{side_of, tested_of}
 use Rattle.dsv_tested.specs.declared.side.Tested.{Tested}
@@ -37,9 +29,10 @@ use Rattle.dsv_report.specs.declared.answers.OutputError.{OutputError}
 use Rattle.dsv_report.specs.declared.answers.Answer.TheVariants as answer
 use Rattle.dsv_report.specs.declared.stop.Stop.TheVariants as stop
 use Rattle.dsv_report.specs.Stops.{Outcome}
-use Rattle.dsv_cli.specs.Headline.{ShowsFall, ShowsKeptAway}
+use Rattle.dsv_lyapunov.specs.Shown.{ShowsFall, ShowsKeptAway}
 use Rattle.dsv_cli.specs.Proposers.{HasClosedForm}
-use Rattle.dsv_cli.specs.Simulating.{IsFirstOutside, IsOfRun}
+use Rattle.dsv_cli.specs.Simulating.{IsOfRun}
+use Rattle.dsv_word.specs.Words.{IsFirstOutside}
 use Rattle.dsv_cli.specs.Searching.{IsOfFormula, IsOfSearch}
 use Rattle.dsv_meaning.specs.Equations.{Past}
 use Rattle.dsv_meaning.specs.Systems.{equations_of}
@@ -57,68 +50,26 @@ use Rattle.dsv_cli.specs.Causes.{IsDecision, IsOfProperty, IsOfTiming, IsOfSets}
 use Rattle.dsv_cli.specs.Ellipsoids.{IsOfOffer, IsOfSoughtEllipsoid}
 use Rattle.dsv_cli.specs.JobRows.{JobTexts, of_one, of_sections, of_state_file, with_plant, sections_with_plant, Evidence, certificate, ellipsoid, JobWords, of_words, of_series, of_state_words, subject_of, ErrorIs, IsOfSections, IsTaskDone, IsOfCheck}
 use Rattle.dsv_cli.specs.Loops.{IsOfLoop}
-use Rattle.dsv_cli.specs.States.{IsOfForm}
-use Rattle.dsv_cli.specs.States.{IsOfSoughtForm, IsOfStateTable}
-use Rattle.dsv_cli.specs.Timing.{IsTimingOf, IsOnTime}
+use Rattle.dsv_cli.specs.States.{IsOfForm, IsOfSoughtForm, IsOfStateTable}
+use Rattle.dsv_timing.specs.Cycles.{IsTimingOf, IsOnTime}
 use Rattle.dsv_reader.specs.Controllers.{ControllerView}
 use Rattle.dsv_timing.specs.Cycles.{cycles_of}
 use Rattle.dsv_timing.specs.declared.work.TimingReport.{TimingReport}
 use Rattle.dsv_netlist.specs.declared.netlist.OpCounts.{OpCounts}
 use Rattle.dsv_fraction.specs.Ratio.{Ratio}
-use Rattle.dsv_cli.specs.OneAnswer.{SameForm, SameAnswer, IsSettled}
+use Rattle.dsv_cli.specs.OneAnswer.{SameAnswer, IsSettled}
 use Rattle.dsv_gain.specs.Subjects.{outlook_of}
 use Rattle.dsv_realise.specs.Runs.{IsTrace}
 use Rattle.dsv_realise.specs.Controllers.{of_controller}
-use Rattle.dsv_generator.specs.Findings.{degree}
-
--- ---- forms
-both_or_out : (d i j : ℕ) → (i < d) ⊎ (d ≤ i) → (j < d) ⊎ (d ≤ j) → ((i < d) × (j < d)) ⊎ ((d ≤ i) ⊎ (d ≤ j))
-both_or_out d i j (inl h) (inl k) = inl (h, k)
-both_or_out d i j (inr h) k = inr (inl h)
-both_or_out d i j h (inr k) = inr (inr k)
-
-one_entry : (d : ℕ) (c : Vector) (P F G : Form) → IsFallForm d c P F → IsFallForm d c P G → (i j : ℕ) → ((i < d) × (j < d)) ⊎ ((d ≤ i) ⊎ (d ≤ j))
-    → matrix_of F.rows i j ≡ matrix_of G.rows i j
-one_entry d c P F G h k i j (inl both) = h.entries i j both.0 both.1 ∙ sym (k.entries i j both.0 both.1)
-one_entry d c P F G h k i j (inr out) = h.elsewhere i j out ∙ sym (k.elsewhere i j out)
-
-one_fall_form : (d : ℕ) (c : Vector) (P F G : Form) → IsFallForm d c P F → IsFallForm d c P G → SameForm F G
-one_fall_form d c P F G h k = record {
-  places = h.places ∙ sym k.places;
-  entries = λ i j. one_entry d c P F G h k i j (both_or_out d i j (cases_lt i d) (cases_lt j d));
-}
+use Rattle.dsv_cli.proofs.OneForms.{one_fall, offer_falls, offer_kept_away, kinds_apart, one_closed, value_of}
+use Rattle.dsv_cli.proofs.OneSections.{one_judgement, one_tabling}
+use Rattle.dsv_cli.proofs.Pairwise.{before_place}
 
 -- ---- decisions
-abbrev Loses : List ℤ → Form → Form → Type 0
-Loses poly form fall = IsFallForm (degree poly) (vector_of poly) form fall
-
-one_fall : (p q : List ℤ) (P R F G : Form) → p ≡ q → P ≡ R → Loses p P F → Loses q R G → SameForm F G
-one_fall p q P R F G e f h k =
-    one_fall_form (degree p) (vector_of p) P F G h (subst (λ poly. Loses poly P G) (sym e) (subst (λ form. Loses q form G) (sym f) k))
-
--- two forms that are the closed form are one
-one_closed : (p q : List ℤ) (a b : FormOffer) → p ≡ q → HasClosedForm p → IfSome (closed_form_of p) (λ closed. a ≡ closed) → IfSome (closed_form_of q) (λ closed. b ≡ closed) → a ≡ b
-one_closed p q a b e c h k =
-    let left : a ≡ c.0 = rw c.1 at h in
-    let right : b ≡ c.0 = rw (← e, c.1) at k in
-    left ∙ sym right
-
-offer_falls : (o u : Falls) → offered.Falls o ≡ offered.Falls u → o ≡ u
-offer_falls o u e = cc
-
-offer_kept_away : (o u : KeptAway) → offered.KeptAway o ≡ offered.KeptAway u → o ≡ u
-offer_kept_away o u e = cc
-
-kinds_apart : (o : Falls) (u : KeptAway) → offered.Falls o ≡ offered.KeptAway u → ⊥
-kinds_apart o u e = cc
-
 falls_once : (p q : List ℤ) (o u : Falls) (f g : Form) → HasClosedForm p → p ≡ q → ShowsFall p o f → ShowsFall q u g → SameAnswer (Ok (answer.Falls p o f)) (Ok (answer.Falls q u g))
 falls_once p q o u f g c e h k =
     let offers = offer_falls o u (one_closed p q (offered.Falls o) (offered.Falls u) e c h.closed_form k.closed_form) in
     (e, offers, one_fall p q o.form u.form f g e (ap (λ (x : Falls). x.form) offers) h.fall_form k.fall_form)
-
-abbrev value_of : List ℤ → KeptAway → ℤ
-value_of poly offer = form_at (degree poly) (matrix_of offer.form.rows) (vector_of offer.start)
 
 kept_away_once : (p q : List ℤ) (o u : KeptAway) (f g : Form) (v w : ℤ) → HasClosedForm p → p ≡ q → ShowsKeptAway p o f v → ShowsKeptAway q u g w
     → SameAnswer (Ok (answer.KeptAway p o f v)) (Ok (answer.KeptAway q u g w))
@@ -184,15 +135,6 @@ one_decision r a b x y h k = absurd h
 
 -- ---- runs
 -- what holds of each number of a list, or of each before a place, holds of the one at a place, or before it
-pub at_place : {A : Type 0} → (P : A → Type 0) (xs : List A) (i : ℕ) (v : A) → slice_get xs i ≡ Some v → All P xs → P v
-at_place P xs i v e h = subst P (get_or_from_slice_get xs i v v e) (h i v (slice_get_within xs i v e))
-
-pub before_place : {A : Type 0} → (P : A → Type 0) (xs : List A) (i j : ℕ) (v : A) → slice_get xs i ≡ Some v → i < j → All P (take j xs) → P v
-before_place P xs i j v e l h =
-    let within = slice_get_within xs i v e in
-    let long = length-take j xs in
-    subst P (get_or-take j xs i v l ∙ get_or_from_slice_get xs i v v e) (h i v (omega arith))
-
 pub one_outside : (format : Format) (inputs : List ℤ) (i j : ℕ) (v w : ℤ) → IsFirstOutside format inputs i v → IsFirstOutside format inputs j w
     → (i ≡ j) ⊎ ((i < j) ⊎ (j < i)) → SameAnswer (Err (stop.InputRange i v)) (Err (stop.InputRange j w))
 one_outside format inputs i j v w h k (inl e) =
@@ -259,8 +201,8 @@ one_search p n c words a b x y h k = absurd h
 abbrev made : OpCounts → ℕ → ℕ → Ratio → TimingReport
 made counts cycles clock time = record { counts = counts; cycles = cycles; clock = clock; sample_time = time }
 
-one_timing : (c : ControllerView) (quantised : QuantisedView) (r s : TimingReport) → IsTimingOf c quantised r → IsTimingOf c quantised s → r ≡ s
-one_timing c quantised r s h k =
+one_timing : (c : ControllerView) (operations : OpCounts) (r s : TimingReport) → IsTimingOf c operations r → IsTimingOf c operations s → r ≡ s
+one_timing c operations r s h k =
     let counts : r.counts ≡ s.counts = h.counts ∙ sym k.counts in
     let cycles : r.cycles ≡ s.cycles = h.cycles ∙ ap (λ (n : OpCounts). cycles_of n c.costs) counts ∙ sym k.cycles in
     let clock : r.clock ≡ s.clock = h.clock ∙ sym k.clock in
@@ -270,15 +212,15 @@ one_timing c quantised r s h k =
     ∙ ap (λ (n : ℕ). made s.counts s.cycles n r.sample_time) clock
     ∙ ap (λ (t : Ratio). made s.counts s.cycles s.clock t) time
 
-on_time_or_late : (c : ControllerView) (quantised : QuantisedView) (r s : TimingReport) → IsTimingOf c quantised r → IsTimingOf c quantised s → IsOnTime r → (IsOnTime s → ⊥) → ⊥
-on_time_or_late c quantised r s h k on late = late (subst IsOnTime (one_timing c quantised r s h k) on)
+on_time_or_late : (c : ControllerView) (operations : OpCounts) (r s : TimingReport) → IsTimingOf c operations r → IsTimingOf c operations s → IsOnTime r → (IsOnTime s → ⊥) → ⊥
+on_time_or_late c operations r s h k on late = late (subst IsOnTime (one_timing c operations r s h k) on)
 
 one_time : (c : ControllerView) (quantised : QuantisedView) → HasOne (IsOfTiming c quantised)
-one_time c quantised (answer.OnTime r) (answer.OnTime s) x y h k = ap (λ it. Ok (answer.OnTime it)) (one_timing c quantised r s h.0 k.0)
-one_time c quantised (answer.OnTime r) (answer.Late s) x y h k = absurd (on_time_or_late c quantised r s h.0 k.0 h.1 k.1)
+one_time c quantised (answer.OnTime r) (answer.OnTime s) x y h k = ap (λ it. Ok (answer.OnTime it)) (one_timing c _ r s h.0 k.0)
+one_time c quantised (answer.OnTime r) (answer.Late s) x y h k = absurd (on_time_or_late c _ r s h.0 k.0 h.1 k.1)
 one_time c quantised (answer.OnTime r) b x y h k = absurd k
-one_time c quantised (answer.Late r) (answer.Late s) x y h k = ap (λ it. Ok (answer.Late it)) (one_timing c quantised r s h.0 k.0)
-one_time c quantised (answer.Late r) (answer.OnTime s) x y h k = absurd (on_time_or_late c quantised s r k.0 h.0 k.1 h.1)
+one_time c quantised (answer.Late r) (answer.Late s) x y h k = ap (λ it. Ok (answer.Late it)) (one_timing c _ r s h.0 k.0)
+one_time c quantised (answer.Late r) (answer.OnTime s) x y h k = absurd (on_time_or_late c _ s r k.0 h.0 k.1 h.1)
 one_time c quantised (answer.Late r) b x y h k = absurd k
 one_time c quantised a b x y h k = absurd h
 
@@ -330,12 +272,15 @@ leads p sc q a x h = poly_leads p sc q h.poly a x h.tested h.decision
 one_property : (p : RootProperty) (sc : Bool) (q : QuantisedView) → HasOne (IsOfProperty p sc q)
 one_property p sc q a b x y h k = one_decision (tested_of q (side_of p)) (Ok a) (Ok b) x y (leads p sc q a x h) (leads p sc q b y k)
 
--- what is left out
-sections_open : (sc : Bool) (s : CascadeView) (a : Answer) → IsOfSections sc s (Ok a) → IsSettled (Ok a) → ⊥
-sections_open false s (answer.OfSections found) h x = x
-sections_open true s (answer.OfSectionTables found) h x = x
-sections_open sc s a h x = absurd h
+-- ---- sections
+one_sections : (sc : Bool) (s : CascadeView) → HasOne (IsOfSections sc s)
+one_sections false s (answer.OfSections f) (answer.OfSections g) x y h k = one_judgement (sections_of s) f g h k
+one_sections true s (answer.OfSectionTables f) (answer.OfSectionTables g) x y h k = ap (λ it. Ok (answer.OfSectionTables it)) (one_tabling (sections_of s) f g h k)
+one_sections false s (answer.OfSections f) b x y h k = absurd k
+one_sections true s (answer.OfSectionTables f) b x y h k = absurd k
+one_sections sc s a b x y h k = absurd h
 
+-- what is left out
 states_open : (s : StateView) (a : Answer) → IsOfStateTable s (Ok a) → IsSettled (Ok a) → ⊥
 states_open s (answer.OfTable found) h x = x
 states_open s answer.NoStateForm h x = x
@@ -376,7 +321,7 @@ one_task (searches p n conflicts) e texts words a b x y h k = one_search p n con
 one_task measures_gain e texts words a b x y h k = one_gain (ErrorIs words) (subject_of words) a b x y h k
 one_task (simulates inputs) e texts words a b x y h k = one_run (subject_of words) inputs a b x y h k
 one_task (decides p sc) e (of_one c) (of_words q) a b x y h k = one_property p sc q a b x y h k
-one_task (decides Stability sc) e (of_sections c cs) (of_series s) a b x y h k = absurd (sections_open sc s a h x)
+one_task (decides Stability sc) e (of_sections c cs) (of_series s) a b x y h k = one_sections sc s a b x y h k
 one_task (decides Stability true) e (of_state_file c) (of_state_words s) a b x y h k = absurd (states_open s a h x)
 one_task (decides Stability sc) e (with_plant c p) (of_words q) a b x y h k = absurd (loop_open (loop_of (q ∷ []) c.sample_time p) a h.0 x)
 one_task (decides Stability sc) e (sections_with_plant c cs p) (of_series s) a b x y h k = absurd (loop_open (loop_of (sections_of s) c.sample_time p) a h x)

@@ -26,7 +26,7 @@ use Rattle.dsv_certcheck.specs.Checks.{shown_check, error_check}
 use Rattle.dsv_report.specs.Output.{offer_in}
 use Rattle.dsv_report.specs.declared.answers.OutputError.{OutputError}
 use Rattle.dsv_report.specs.declared.answers.OutputError.TheVariants as error
-use Rattle.dsv_cli.specs.Gain.{most_gain_samples, IsBoundOf, IsErrorOf}
+use Rattle.dsv_cli.specs.Gain.{most_gain_samples, IsErrorOf}
 use Rattle.dsv_gain.specs.Subjects.{HoldsAlways}
 use Rattle.dsv_realise.specs.Controllers.{of_controller}
 
@@ -59,25 +59,21 @@ offer_is q offer r z e l =
 
 -- ---- what is found
 bound_is : (q : QuantisedView) (ranges : List Range) (bound : ErrorBound) → IsQuantisedView q → HoldsAlways (of_controller q) ranges → error_of (net_of q) bound.offer ≡ Some bound.output
-    → StaysNear q bound.output → bound.offer.depth < most_gain_samples → IsBoundOf q bound
-bound_is q ranges bound z h e n l = record {
-  shown = e;
-  near = always_near q ranges bound.output h n;
-  lawful = offer_is q bound.offer bound.output z e l;
-}
+    → StaysNear q bound.output → bound.offer.depth < most_gain_samples → IsErrorOf q (error.Within bound)
+bound_is q ranges bound z h e n l = (record { shown = e; near = always_near q ranges bound.output h n }, offer_is q bound.offer bound.output z e l)
 
 -- the same of what may be found
 pub bound_by : (q : QuantisedView) (ranges : List Range) (found : Option ErrorBound) (bound : ErrorBound) → found ≡ Some bound → IsQuantisedView q → HoldsAlways (of_controller q) ranges
-    → IfSome found (λ it. error_of (net_of q) it.offer ≡ Some it.output) → IfSome found (λ it. StaysNear q it.output) → IfSome found (λ it. it.offer.depth < most_gain_samples) → IsBoundOf q bound
+    → IfSome found (λ it. error_of (net_of q) it.offer ≡ Some it.output) → IfSome found (λ it. StaysNear q it.output) → IfSome found (λ it. it.offer.depth < most_gain_samples) → IsErrorOf q (error.Within bound)
 bound_by q ranges found bound e z h shown near within = bound_is q ranges bound z h (rw e at shown) (rw e at near) (rw e at within)
 
 -- ---- its certificate
 pub offer_passes : (words : CertWords) (q : QuantisedView) (found : OutputError) → IsErrorOf q found → error_check words q (offer_in found) ≡ Ok tt
 offer_passes words q error.NotSought h = absurd h
 offer_passes words q error.Open h = refl
-offer_passes words q (error.Within bound) h = ap (shown_check words) h.shown
+offer_passes words q (error.Within bound) h = ap (shown_check words) h.0.shown
 
 pub offer_lawful : (q : QuantisedView) (found : OutputError) → IsErrorOf q found → IfSome (offer_in found) IsRoundoffOffer
 offer_lawful q error.NotSought h = absurd h
 offer_lawful q error.Open h = tt
-offer_lawful q (error.Within bound) h = h.lawful
+offer_lawful q (error.Within bound) h = h.1

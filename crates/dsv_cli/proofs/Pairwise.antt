@@ -1,7 +1,10 @@
--- Lists that stand so to one another, place by place.
+-- Lists that stand so to one another, place by place, and what is true of all of a list.
 use Rattle.std.specs.Prelude.{slice_get, Some}
-use Rattle.std.proofs.Common.{◌≡◌, ◌<◌, ◌+◌, ℕ, zero, suc, List, [], ◌∷◌, ◌++◌, length, take, get_or, subst, ap, refl, arith}
-use Rattle.dsv_cli.specs.Cascades.{Pairwise}
+use Rattle.std.specs.List.{All}
+use Rattle.std.proofs.lemmas.List.{get_or-take, length-take}
+use Rattle.std.proofs.lemmas.Option.{get_or_from_slice_get, slice_get_within}
+use Rattle.std.proofs.Common.{◌≡◌, ◌<◌, ◌+◌, ℕ, zero, suc, List, [], ◌∷◌, ◌++◌, length, take, get_or, subst, ap, refl, ◌∙◌, arith}
+use Rattle.dsv_base.specs.Lists.{Pairwise}
 
 next : {A B : Type 0} (R : A → B → Type 0) (xs : List A) (ys : List B) (i : ℕ) (x : A) (y : B) → i < length xs → x ≡ get_or xs i x → Pairwise R (take i xs) ys → R x y → Pairwise R (take (suc i) xs) (ys ++ y ∷ [])
 next R [] ys i x y l e h r = absurd (omega arith)
@@ -46,3 +49,13 @@ pair_before R [] ys i (suc j) x e l h = absurd (cc)
 pair_before R (a ∷ xs) [] i (suc j) x e l h = absurd h
 pair_before R (a ∷ xs) (y ∷ ys) zero (suc j) x e l h = (y, subst (λ z. R z y) (some_once a x e) h.0)
 pair_before R (a ∷ xs) (y ∷ ys) (suc i) (suc j) x e l h = pair_before R xs ys i j x e (omega (arith, l)) h.1
+
+-- ---- what is true of all of a list
+pub at_place : {A : Type 0} → (P : A → Type 0) (xs : List A) (i : ℕ) (v : A) → slice_get xs i ≡ Some v → All P xs → P v
+at_place P xs i v e h = subst P (get_or_from_slice_get xs i v v e) (h i v (slice_get_within xs i v e))
+
+pub before_place : {A : Type 0} → (P : A → Type 0) (xs : List A) (i j : ℕ) (v : A) → slice_get xs i ≡ Some v → i < j → All P (take j xs) → P v
+before_place P xs i j v e l h =
+    let within = slice_get_within xs i v e in
+    let long = length-take j xs in
+    subst P (get_or-take j xs i v l ∙ get_or_from_slice_get xs i v v e) (h i v (omega arith))

@@ -1,7 +1,7 @@
 -- A run is done for its arguments as it is for their request and their reason.
 use Rattle.std.proofs.Common.{◌≡◌, inr, ℕ, List, Option, Some, None, Err, refl, subst, arith}
 use Rattle.std.specs.Prelude.{IfSome}
-use Rattle.dsv_base.specs.Seen.{FilesSeen, SinkSeen}
+use Rattle.dsv_base.specs.Seen.{FilesSeen, SinkSeen, AreKept}
 use Rattle.dsv_certfile.specs.Typed.{IsTyped}
 use Rattle.dsv_certfile.specs.declared.job.CertWords.TheVariants as words_said
 use Rattle.dsv_command.specs.Reasons.{Reason}
@@ -15,7 +15,7 @@ use Rattle.dsv_report.specs.Report.{status_of}
 use Rattle.dsv_report.specs.declared.stop.Stop.TheVariants as stop
 use Rattle.dsv_cli.specs.declared.command.Done.{Done}
 use Rattle.dsv_cli.specs.JobRows.{IsAnswered, IsSaid, AreInRow}
-use Rattle.dsv_cli.specs.Headline.{AreKept, IsWritten, IfWhole}
+use Rattle.dsv_base.specs.Taking.{IsWritten, IfWhole}
 use Rattle.dsv_cli.specs.Runs.{IsDone}
 use Rattle.dsv_cli.proofs.Undecided.{low_is_decided, table_decides}
 

@@ -1,32 +1,26 @@
 -- Why the files of a cascade's sections aren't those of controllers.
-use Rattle.std.proofs.Common.{◌≡◌, ◌<◌, ◌≤◌, ℕ, zero, suc, List, [], ◌∷◌, length, take, map, get_or, Bor, refl, subst, ◌∙◌, arith, inl, inr}
+use Rattle.std.proofs.Common.{◌≡◌, ◌<◌, ◌≤◌, ℕ, zero, suc, List, [], ◌∷◌, length, take, map, get_or, Bor, refl, ◌∙◌, arith, inl, inr}
 use Rattle.std.specs.Prelude.{Some, slice_get}
-use Rattle.dsv_base.specs.Seen.{FilesSeen}
+use Rattle.dsv_base.specs.Seen.{FilesSeen, AreKept}
 use Rattle.dsv_reader.specs.Controllers.{ControllerView}
-use Rattle.dsv_reader.specs.Texts.{IsFaultOf}
 use Rattle.dsv_report.specs.declared.stop.Stop.{Stop}
 use Rattle.dsv_report.specs.declared.stop.Stop.TheVariants as stop
-use Rattle.dsv_report.specs.declared.stop.WhichFile.TheVariants as file
-use Rattle.dsv_cli.specs.Cascades.{IsFileOf, AreControllers, IsLaterUnread}
-use Rattle.dsv_cli.specs.Headline.{CameOf, IsControllerOf, IsUnread, AreKept}
+use Rattle.dsv_cli.specs.Cascades.{AreControllers, IsLaterUnread}
 use Rattle.dsv_command.specs.Table.{cascade_loop}
 use Rattle.dsv_cli.specs.JobRows.{AreUnread}
 use Rattle.dsv_cli.specs.SectionFiles.{IsFilesUnread}
-use Rattle.dsv_cli.proofs.FileBytes.{file_earlier}
+use Rattle.dsv_cli.proofs.FileBytes.{file_earlier, text_earlier}
 use Rattle.dsv_cli.proofs.Pairwise.{pairs_weaker}
+use Rattle.dsv_cli.specs.Files.{a_controller, a_section, IsFileOf, IsUnread}
 
--- ---- one file
-
-pub controller_earlier : (old then : FilesSeen) (name : List ℕ) (c : ControllerView) → AreKept old then → IsFileOf then name c → IsFileOf old name c
-controller_earlier old then name c k h = subst (λ held. CameOf (held name) (λ bytes. IsControllerOf bytes c)) k.held h
-
+-- ---- files after others
 pub files_earlier : (old then : FilesSeen) (names : List (List ℕ)) (cs : List ControllerView) → AreKept old then → AreControllers then names cs → AreControllers old names cs
-files_earlier old then names cs k h = pairs_weaker (IsFileOf then) (IsFileOf old) names cs (λ name c f. controller_earlier old then name c k f) h
+files_earlier old then names cs k h = pairs_weaker (IsFileOf a_controller then) (IsFileOf a_controller old) names cs (λ name c f. text_earlier a_controller old then name c k f) h
 
 -- ---- later files
 -- the file at this place isn't a controller's, and those before it are
 pub later_unread : (old new : FilesSeen) (names : List (List ℕ)) (i : ℕ) (name : List ℕ) (before : List ControllerView) (why : Stop) → slice_get names i ≡ Some name → AreControllers old (take i names) before
-    → IsUnread (file.Section (suc i)) IsFaultOf old new name why → IsLaterUnread old new names why
+    → IsUnread (a_section (suc i)) old new name why → IsLaterUnread old new names why
 later_unread old new names i name before stop.NoMemory e h u = tt
 later_unread old new names i name before why e h u = (i, name, e, before, h, u)
 
@@ -34,7 +28,7 @@ pub later_earlier : (old then new : FilesSeen) (names : List (List ℕ)) (why : 
 later_earlier old then new names stop.NoMemory k l h = tt
 later_earlier old then new names why k l h =
     let i = h.0 in
-    (i, h.1, h.2, h.3, files_earlier old then (take i names) h.3 k h.4, file_earlier IsFaultOf old then new h.1 (file.Section (suc i)) why k l h.5)
+    (i, h.1, h.2, h.3, files_earlier old then (take i names) h.3 k h.4, file_earlier (a_section (suc i)) old then new h.1 why k l h.5)
 
 pub kept_on : (old then new : FilesSeen) → AreKept old then → AreKept then new → AreKept old new
 kept_on old then new a b = record { held = b.held ∙ a.held; faults = omega (arith, a.faults, b.faults) }

@@ -1,11 +1,10 @@
 -- The stages of a job lead to its row.
-use Rattle.std.proofs.Common.{◌≡◌, ◌⊎◌, ◌≤◌, inl, inr, ℕ, List, subst, refl}
+use Rattle.std.proofs.Common.{◌≡◌, ◌⊎◌, ◌≤◌, inl, inr, ℕ, List, refl}
 use Rattle.std.specs.Prelude.{Ok, Err, Option, Some}
-use Rattle.dsv_base.specs.Seen.{FilesSeen}
+use Rattle.dsv_base.specs.Seen.{FilesSeen, AreKept}
 use Rattle.dsv_names.specs.declared.design.Design.{Design}
 use Rattle.dsv_quantiser.specs.QuantisedView.{QuantisedView}
 use Rattle.dsv_certfile.specs.declared.certificate.Certificate.{Certificate}
-use Rattle.dsv_certfile.specs.declared.ellipsoid.Ellipsoid.{Ellipsoid}
 use Rattle.dsv_certfile.specs.declared.job.CertWords.{CertWords}
 use Rattle.dsv_command.specs.Table.{Job, does, JobFiles, controller, cascade, states, plant_loop, cascade_loop, kind_of, Task, checks_form, checks_ellipsoid}
 use Rattle.dsv_command.specs.declared.kind.Kind.TheVariants as of_kind
@@ -14,33 +13,25 @@ use Rattle.dsv_template.specs.declared.shape.Shape.{Shape}
 use Rattle.dsv_report.specs.declared.stop.Stop.{Stop}
 use Rattle.dsv_report.specs.declared.stop.Stop.TheVariants as stop
 use Rattle.dsv_report.specs.Stops.{Outcome}
-use Rattle.dsv_cli.specs.Checking.{IsCertificateOf, IsUnreadCertificate}
-use Rattle.dsv_cli.specs.Ellipsoids.{IsOffer, IsOfferOf}
-use Rattle.dsv_cli.specs.Headline.{AreKept, CameOf, IsSpelled}
 use Rattle.dsv_cli.specs.JobRows.{JobTexts, of_one, of_sections, of_state_file, with_plant, sections_with_plant, HaveTexts, AreUnread, Evidence, none, certificate, ellipsoid, HasEvidence, IsEvidenceUnread, AreWordless, IsDoneBy, IsOfCheck, IsCheckedBy, IsCheckOfRow, of_words, IsNothing, IsSaidOf}
 use Rattle.dsv_cli.specs.Proposers.{AreSetsAsked}
 use Rattle.dsv_cli.specs.Stages.{kind_in, IsAlone, IsDoneFor, IsRowFor, IsRowWith, IsSaidBeside}
-use Rattle.dsv_cli.proofs.FileBytes.{unread_earlier, offer_earlier}
+use Rattle.dsv_cli.proofs.FileBytes.{file_earlier, text_earlier}
 use Rattle.dsv_cli.proofs.Unasked.{sets_of_stop}
+use Rattle.dsv_cli.specs.Files.{a_certificate, an_ellipsoid, IsFileOf, IsUnread}
 
 -- ---- evidence, from files that were read earlier
-spelled_earlier : (old then : FilesSeen) (name : List ℕ) (c : Certificate) → AreKept old then → IsCertificateOf then name c → IsCertificateOf old name c
-spelled_earlier old then name c k h = subst (λ held. CameOf (held name) (λ written. IsSpelled written c)) k.held h
-
-offered_earlier : (old then : FilesSeen) (name : List ℕ) (o : Ellipsoid) → AreKept old then → IsOfferOf then name o → IsOfferOf old name o
-offered_earlier old then name o k h = subst (λ held. CameOf (held name) (λ written. IsOffer written o)) k.held h
-
 evidence_earlier : (old then : FilesSeen) (task : Task) (e : Evidence) → AreKept old then → HasEvidence then task e → HasEvidence old task e
-evidence_earlier old then (checks_form name) (certificate c) k h = spelled_earlier old then name c k h
+evidence_earlier old then (checks_form name) (certificate c) k h = text_earlier a_certificate old then name c k h
 evidence_earlier old then (checks_form name) e k h = absurd h
-evidence_earlier old then (checks_ellipsoid name) (ellipsoid o) k h = offered_earlier old then name o k h
+evidence_earlier old then (checks_ellipsoid name) (ellipsoid o) k h = text_earlier an_ellipsoid old then name o k h
 evidence_earlier old then (checks_ellipsoid name) e k h = absurd h
 evidence_earlier old then task none k h = tt
 evidence_earlier old then task e k h = absurd h
 
 evidence_unread_earlier : (old then new : FilesSeen) (task : Task) (why : Stop) → AreKept old then → old.came ≤ then.came → IsEvidenceUnread then new task why → IsEvidenceUnread old new task why
-evidence_unread_earlier old then new (checks_form name) why k l h = unread_earlier old then new name why k.held k.faults l h
-evidence_unread_earlier old then new (checks_ellipsoid name) why k l h = offer_earlier old then new name why k.held k.faults l h
+evidence_unread_earlier old then new (checks_form name) why k l h = file_earlier a_certificate old then new name why k l h
+evidence_unread_earlier old then new (checks_ellipsoid name) why k l h = file_earlier an_ellipsoid old then new name why k l h
 evidence_unread_earlier old then new task why k l h = absurd h
 
 -- ---- from the texts on
@@ -114,17 +105,17 @@ pub no_checked_texts : (old new : FilesSeen) (files : JobFiles) (name : List ℕ
 no_checked_texts old new files name stop.NoMemory h = tt
 no_checked_texts old new files name why h = inl h
 
-pub no_certificate : (old then new : FilesSeen) (files : JobFiles) (came : JobTexts) (name : List ℕ) (why : Stop) → HaveTexts old files came → AreKept old then → old.came ≤ then.came → IsUnreadCertificate then new name why
+pub no_certificate : (old then new : FilesSeen) (files : JobFiles) (came : JobTexts) (name : List ℕ) (why : Stop) → HaveTexts old files came → AreKept old then → old.came ≤ then.came → IsUnread a_certificate then new name why
     → IsCheckOfRow old new files name (Err why)
-no_certificate old then new files came name why t k l h = refused old new files came name why t (unread_earlier old then new name why k.held k.faults l h)
+no_certificate old then new files came name why t k l h = refused old new files came name why t (file_earlier a_certificate old then new name why k l h)
   where
-    refused : (old new : FilesSeen) (files : JobFiles) (came : JobTexts) (name : List ℕ) (why : Stop) → HaveTexts old files came → IsUnreadCertificate old new name why → IsCheckOfRow old new files name (Err why)
+    refused : (old new : FilesSeen) (files : JobFiles) (came : JobTexts) (name : List ℕ) (why : Stop) → HaveTexts old files came → IsUnread a_certificate old new name why → IsCheckOfRow old new files name (Err why)
     refused old new files came name stop.NoMemory t h = tt
     refused old new files came name why t h = inr (inl (came, t, h))
 
-pub row_of_check : (old then new : FilesSeen) (files : JobFiles) (came : JobTexts) (name : List ℕ) (c : Certificate) (found : Outcome) → HaveTexts old files came → AreKept old then → IsCertificateOf then name c → IsOfCheck came c found
+pub row_of_check : (old then new : FilesSeen) (files : JobFiles) (came : JobTexts) (name : List ℕ) (c : Certificate) (found : Outcome) → HaveTexts old files came → AreKept old then → IsFileOf a_certificate then name c → IsOfCheck came c found
     → IsCheckOfRow old new files name found
-row_of_check old then new files came name c found t k s h = checked old new files name found (record { texts = came; have_texts = t; written = c; spelled = spelled_earlier old then name c k s; check = h })
+row_of_check old then new files came name c found t k s h = checked old new files name found (record { texts = came; have_texts = t; written = c; spelled = text_earlier a_certificate old then name c k s; check = h })
   where
     checked : (old new : FilesSeen) (files : JobFiles) (name : List ℕ) (found : Outcome) → IsCheckedBy old files name found → IsCheckOfRow old new files name found
     checked old new files name (Ok found) h = h

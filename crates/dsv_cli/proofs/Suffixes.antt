@@ -1,7 +1,7 @@
 -- What is left of a list whose first entry changes or goes.
 use Rattle.std.proofs.Common.{◌≡◌, ℕ, ◌+◌, ◌-◌, List, ◌∷◌, map, length, drop, refl, ap, ◌∙◌, arith}
 use Rattle.std.proofs.Math.Seq.{drop-drop}
-use Rattle.dsv_cli.specs.Suffixes.{IsSuffix}
+use Rattle.dsv_base.specs.Lists.{IsSuffix}
 
 module _ {A P : Type 0} (place : A → P) where
   -- nothing changes

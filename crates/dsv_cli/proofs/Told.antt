@@ -2,7 +2,7 @@
 use Rattle.std.proofs.Common.{ℕ, ◌+◌, ◌<◌, List, length, replicate, refl, arith}
 use Rattle.std.proofs.lemmas.List.{length-replicate}
 use Rattle.std.specs.Prelude.{Option, Some, None, IfSome}
-use Rattle.dsv_cli.specs.Headline.{CameOf}
+use Rattle.dsv_base.specs.Seen.{CameOf}
 
 -- what follows of the bytes that came
 pub along : {P Q : List ℕ → Type 0} (told : Option (List ℕ)) → ((bytes : List ℕ) → P bytes → Q bytes) → CameOf told P → CameOf told Q

@@ -1,9 +1,10 @@
--- What properties of roots, sets and timing come to; what needs no proposer is for private
--- contracts.
+-- What properties of roots, sets, timing and generated controllers come to; what needs no proposer
+-- is for private contracts.
 use Rattle.std.specs.Prelude.{◌≡◌, ◌≤◌, ℕ, Bool, true, false, List, Ok, Err, ℤ}
 use Rattle.dsv_names.specs.declared.property.RootProperty.{RootProperty}
 use Rattle.dsv_names.specs.declared.property.RootProperty.TheVariants as property
 use Rattle.dsv_reader.specs.Controllers.{ControllerView}
+use Rattle.dsv_meaning.specs.Equations.{order}
 use Rattle.dsv_quantiser.specs.QuantisedView.{QuantisedView}
 use Rattle.dsv_tested.specs.Tested.{side_of, tested_of}
 use Rattle.dsv_tested.specs.declared.side.Tested.TheVariants as tested
@@ -11,15 +12,19 @@ use Rattle.dsv_report.specs.declared.answers.Answer.TheVariants as answer
 use Rattle.dsv_report.specs.declared.stop.Stop.TheVariants as stop
 use Rattle.dsv_report.specs.Printing.{FormsHavePlaces}
 use Rattle.dsv_report.specs.Stops.{Outcome}
-use Rattle.dsv_cli.specs.Headline.{ShowsFall, ShowsKeptAway, ShowsNoForm, ShowsTable}
+use Rattle.dsv_lyapunov.specs.Shown.{ShowsFall, ShowsKeptAway}
+use Rattle.dsv_poly_table.specs.Shown.{ShowsNoForm, ShowsTable}
 use Rattle.dsv_bounded.specs.RunAnswers.{IsTooLarge}
+use Rattle.dsv_generator.specs.Tallies.{IsGeneratedFrom}
 use Rattle.dsv_invariant.specs.Limits.{unbounded_samples}
-use Rattle.dsv_cli.specs.Gain.{IsBreakOf, most_gain_samples}
+use Rattle.dsv_cli.specs.Gain.{most_gain_samples}
+use Rattle.dsv_gain.specs.Subjects.{IsBreakOf}
 use Rattle.dsv_gain.specs.Subjects.{outlook_of}
 use Rattle.dsv_gain.specs.declared.outlook.Outlook.TheVariants as outlook
+use Rattle.dsv_realise.specs.Running.{counts_as}
 use Rattle.dsv_realise.specs.SubjectView.{SubjectView}
-use Rattle.dsv_cli.specs.Sets.{KeepsTo, NoneIsGood}
-use Rattle.dsv_cli.specs.Timing.{IsTimingOf, IsOnTime}
+use Rattle.dsv_invariant.specs.Sets.{KeepsTo, NoneIsGood}
+use Rattle.dsv_timing.specs.Cycles.{IsTimingOf, IsOnTime}
 use Rattle.dsv_realise.specs.Controllers.{of_controller}
 
 -- the answer that decides a polynomial, by its table at last if the flag is set
@@ -53,7 +58,7 @@ IsOfProperty of_property schur_cohn q found = IsOfPolynomial of_property schur_c
 
 -- some range leaves the words: a trace breaks the subject, or none that was tried does
 abbrev pub IsOfLeft : SubjectView → Outcome → Type 0
-IsOfLeft s (Ok (answer.Overflow trace)) = IsBreakOf s trace
+IsOfLeft s (Ok (answer.Overflow trace)) = IsBreakOf most_gain_samples s trace
 IsOfLeft s (Ok (answer.OutOfRange sample value)) =
     outlook_of s most_gain_samples ≡ outlook.Leaves sample value
 IsOfLeft s (Err stop.NoMemory) = Unit {0}
@@ -70,8 +75,10 @@ IsOfSets conflicts q other = ⊥
 
 -- what a sample takes, in time or not
 abbrev pub IsOfTiming : ControllerView → QuantisedView → Outcome → Type 0
-IsOfTiming c q (Ok (answer.OnTime report)) = IsTimingOf c q report × IsOnTime report
-IsOfTiming c q (Ok (answer.Late report)) = IsTimingOf c q report × (IsOnTime report → ⊥)
+IsOfTiming c q (Ok (answer.OnTime report)) =
+    IsTimingOf c (counts_as q.realisation (order q)) report × IsOnTime report
+IsOfTiming c q (Ok (answer.Late report)) =
+    IsTimingOf c (counts_as q.realisation (order q)) report × (IsOnTime report → ⊥)
 IsOfTiming c q (Err stop.NoMemory) = Unit {0}
 IsOfTiming c q other = ⊥
 
@@ -86,3 +93,9 @@ IsPlain (Ok (answer.NoForm poly kept verdict)) = ⊥
 IsPlain (Ok (answer.Always candidate logs)) = ⊥
 IsPlain (Ok (answer.NoInvariant kept)) = ⊥
 IsPlain other = Unit {0}
+
+-- What is found of generated controllers: each is one of the seed's, and each finding is so.
+abbrev pub IsOfGeneration : ℕ → ℕ → Outcome → Type 0
+IsOfGeneration seed count (Ok (answer.Generated found)) = IsGeneratedFrom seed count found
+IsOfGeneration seed count (Err stop.NoMemory) = Unit {0}
+IsOfGeneration seed count other = ⊥

@@ -8,7 +8,6 @@ use Rattle.dsv_names.specs.declared.design.Design.{Design}
 use Rattle.dsv_names.specs.declared.property.RootProperty.TheVariants.{Stability}
 use Rattle.dsv_reader.specs.Controllers.{ControllerView}
 use Rattle.dsv_reader.specs.Plants.{PlantView}
-use Rattle.dsv_reader.specs.Texts.{IsFaultOf}
 use Rattle.dsv_quantiser.specs.Modes.{BecomesWords}
 use Rattle.dsv_quantiser.specs.QuantisedView.{QuantisedView}
 use Rattle.dsv_realise.specs.Controllers.{of_controller}
@@ -24,8 +23,7 @@ use Rattle.dsv_state_space.specs.StateView.{StateView}
 use Rattle.dsv_state_space.specs.Subjects.{of_states}
 use Rattle.dsv_loop.specs.Loops.{loop_of}
 use Rattle.dsv_certfile.specs.Words.{words_for}
-use Rattle.dsv_certcheck.specs.Checks.{IsChecked}
-use Rattle.dsv_certcheck.specs.LoopChecks.{IsLoopChecked, IsLoopShownOf}
+use Rattle.dsv_certcheck.specs.Found.{IsChecked}
 use Rattle.dsv_certcheck.specs.Shown.{IsShownOf, IsNearOf}
 use Rattle.dsv_certcheck.specs.declared.check_refusal.CheckRefusal.{CheckRefusal}
 use Rattle.dsv_certfile.specs.Texts.{job_of}
@@ -44,18 +42,20 @@ use Rattle.dsv_report.specs.declared.stop.Stop.{Stop}
 use Rattle.dsv_report.specs.declared.stop.Stop.TheVariants as stop
 use Rattle.dsv_report.specs.declared.stop.WhichFile.TheVariants as file
 use Rattle.dsv_report.specs.Stops.{Outcome}
-use Rattle.dsv_cli.specs.Cascades.{IsFileOf, AreControllers, BecomeWords, IsNoCascade}
+use Rattle.dsv_cli.specs.Cascades.{AreControllers, BecomeWords, IsNoCascade}
 use Rattle.dsv_cli.specs.Cascades.{IsLaterUnread}
 use Rattle.dsv_cli.specs.Causes.{IsOfProperty, IsOfSets, IsOfTiming}
-use Rattle.dsv_cli.specs.Checking.{IsCertificateOf, IsUnreadCertificate, stop_of_check}
-use Rattle.dsv_cli.specs.Ellipsoids.{IsOfferOf, IsUnreadOffer, IsOfOffer, IsOfSoughtEllipsoid}
+use Rattle.dsv_cli.specs.Checking.{stop_of_check}
+use Rattle.dsv_cli.specs.Ellipsoids.{IsOfOffer, IsOfSoughtEllipsoid}
 use Rattle.dsv_cli.specs.Gain.{IsErrorOf, IsNotSought, IsOfGain}
-use Rattle.dsv_cli.specs.Headline.{IsUnread, IsOfGeneration}
-use Rattle.dsv_cli.specs.Loops.{IsPlantFileOf, IsPlantFault, IsOfLoop, HasFewCoefficients}
+use Rattle.dsv_cli.specs.Causes.{IsOfGeneration}
+use Rattle.dsv_cli.specs.Loops.{IsOfLoop, HasFewCoefficients}
 use Rattle.dsv_cli.specs.Searching.{IsOfFormula, IsOfSearch}
 use Rattle.dsv_cli.specs.Simulating.{IsOfRun}
-use Rattle.dsv_cli.specs.States.{IsStatesFileOf, IsStatesUnread, IsOfSoughtForm, IsOfStateTable}
+use Rattle.dsv_cli.specs.States.{IsOfSoughtForm, IsOfStateTable}
 use Rattle.dsv_cli.specs.States.{IsOfForm}
+use Rattle.dsv_cli.specs.Files.{a_controller, a_state_controller, a_plant, a_certificate}
+use Rattle.dsv_cli.specs.Files.{an_ellipsoid, IsFileOf, IsUnread}
 
 -- ---- the files
 -- what the files of a job have the texts of
@@ -69,31 +69,31 @@ pub data JobTexts : Type 0 where
 
 -- the files have these texts
 abbrev pub HaveTexts : FilesSeen → JobFiles → JobTexts → Type 0
-HaveTexts old (controller name) (of_one c) = IsFileOf old name c
+HaveTexts old (controller name) (of_one c) = IsFileOf a_controller old name c
 HaveTexts old (cascade name later) (of_sections c cs) =
-    IsFileOf old name c × AreControllers old later cs
-HaveTexts old (states name) (of_state_file c) = IsStatesFileOf old name c
+    IsFileOf a_controller old name c × AreControllers old later cs
+HaveTexts old (states name) (of_state_file c) = IsFileOf a_state_controller old name c
 HaveTexts old (plant_loop name plant) (with_plant c p) =
-    IsFileOf old name c × IsPlantFileOf old plant p
+    IsFileOf a_controller old name c × IsFileOf a_plant old plant p
 HaveTexts old (cascade_loop name later plant) (sections_with_plant c cs p) =
-    IsFileOf old name c × AreControllers old later cs × IsPlantFileOf old plant p
+    IsFileOf a_controller old name c × AreControllers old later cs × IsFileOf a_plant old plant p
 HaveTexts old files texts = ⊥
 
 -- what keeps the first file from being the one that it has to be, or a later one, where those
 -- before it are
 abbrev pub AreUnread : FilesSeen → FilesSeen → JobFiles → Stop → Type 0
-AreUnread old new (controller name) why = IsUnread file.Controller IsFaultOf old new name why
-AreUnread old new (cascade name later) why = IsUnread file.Controller IsFaultOf old new name why
-    ⊎ ((c : ControllerView) × IsFileOf old name c × IsLaterUnread old new later why)
-AreUnread old new (states name) why = IsStatesUnread old new name why
-AreUnread old new (plant_loop name plant) why = IsUnread file.Controller IsFaultOf old new name why
-    ⊎ ((c : ControllerView) × IsFileOf old name c
-    × IsUnread file.Plant IsPlantFault old new plant why)
+AreUnread old new (controller name) why = IsUnread a_controller old new name why
+AreUnread old new (cascade name later) why = IsUnread a_controller old new name why
+    ⊎ ((c : ControllerView) × IsFileOf a_controller old name c × IsLaterUnread old new later why)
+AreUnread old new (states name) why = IsUnread a_state_controller old new name why
+AreUnread old new (plant_loop name plant) why = IsUnread a_controller old new name why
+    ⊎ ((c : ControllerView) × IsFileOf a_controller old name c
+    × IsUnread a_plant old new plant why)
 AreUnread old new (cascade_loop name later plant) why =
-    IsUnread file.Controller IsFaultOf old new name why
-    ⊎ (((c : ControllerView) × IsFileOf old name c × IsLaterUnread old new later why)
-    ⊎ ((c : ControllerView) × (cs : List ControllerView) × IsFileOf old name c
-    × AreControllers old later cs × IsUnread file.Plant IsPlantFault old new plant why))
+    IsUnread a_controller old new name why
+    ⊎ (((c : ControllerView) × IsFileOf a_controller old name c × IsLaterUnread old new later why)
+    ⊎ ((c : ControllerView) × (cs : List ControllerView) × IsFileOf a_controller old name c
+    × AreControllers old later cs × IsUnread a_plant old new plant why))
 
 -- ---- what a task names
 pub data Evidence : Type 0 where
@@ -103,17 +103,17 @@ pub data Evidence : Type 0 where
 
 -- the file that the task names, if it does, has this
 abbrev pub HasEvidence : FilesSeen → Task → Evidence → Type 0
-HasEvidence old (checks_form name) (certificate c) = IsCertificateOf old name c
+HasEvidence old (checks_form name) (certificate c) = IsFileOf a_certificate old name c
 HasEvidence old (checks_form name) other = ⊥
-HasEvidence old (checks_ellipsoid name) (ellipsoid offer) = IsOfferOf old name offer
+HasEvidence old (checks_ellipsoid name) (ellipsoid offer) = IsFileOf an_ellipsoid old name offer
 HasEvidence old (checks_ellipsoid name) other = ⊥
 HasEvidence old task none = Unit {0}
 HasEvidence old task other = ⊥
 
 -- what keeps the file that the task names from having it
 abbrev pub IsEvidenceUnread : FilesSeen → FilesSeen → Task → Stop → Type 0
-IsEvidenceUnread old new (checks_form name) why = IsUnreadCertificate old new name why
-IsEvidenceUnread old new (checks_ellipsoid name) why = IsUnreadOffer old new name why
+IsEvidenceUnread old new (checks_form name) why = IsUnread a_certificate old new name why
+IsEvidenceUnread old new (checks_ellipsoid name) why = IsUnread an_ellipsoid old new name why
 IsEvidenceUnread old new task why = ⊥
 
 -- ---- the words
@@ -231,18 +231,18 @@ IsJobRow old new files task design (Err why) = AreUnread old new files why
     ⊎ (LacksWords old files task design why ⊎ IsDoneBy old files task design (Err why)))
 
 -- ---- checks of certificates
--- what the check of a certificate comes to, of a controller or of its loop
+-- what the check of a certificate comes to, of a controller and of a plant if there is one
+abbrev pub ChecksTo : ControllerView → Option PlantView → Certificate → Outcome → Type 0
+ChecksTo c plant written (Ok (answer.Checked certified error)) = (certified ≡ job_of written)
+    × IsChecked c plant written (Ok tt) × IsShownOf c plant certified × IsNearOf c written error
+ChecksTo c plant written (Err why) =
+    (r : CheckRefusal) × IsChecked c plant written (Err r) × (why ≡ stop_of_check r)
+ChecksTo c plant written found = ⊥
+
+-- of what files have
 abbrev pub IsOfCheck : JobTexts → Certificate → Outcome → Type 0
-IsOfCheck (of_one c) written (Ok (answer.Checked certified error)) =
-    (certified ≡ job_of written) × IsChecked c written (Ok tt) × IsShownOf c certified
-    × IsNearOf c written error
-IsOfCheck (with_plant c p) written (Ok (answer.Checked certified error)) =
-    (certified ≡ job_of written) × IsLoopChecked c p written (Ok tt)
-    × IsLoopShownOf c p certified × (error ≡ None)
-IsOfCheck (of_one c) written (Err why) =
-    (r : CheckRefusal) × IsChecked c written (Err r) × (why ≡ stop_of_check r)
-IsOfCheck (with_plant c p) written (Err why) =
-    (r : CheckRefusal) × IsLoopChecked c p written (Err r) × (why ≡ stop_of_check r)
+IsOfCheck (of_one c) written found = ChecksTo c None written found
+IsOfCheck (with_plant c p) written found = ChecksTo c (Some p) written found
 IsOfCheck texts written found = ⊥
 
 -- The files have these texts, the certificate's file spells this, and its check comes to this.
@@ -251,7 +251,7 @@ pub record IsCheckedBy (old : FilesSeen) (files : JobFiles) (name : List ℕ) (f
   pub texts : JobTexts
   pub have_texts : HaveTexts old files texts
   pub written : Certificate
-  pub spelled : IsCertificateOf old name written
+  pub spelled : IsFileOf a_certificate old name written
   pub check : IsOfCheck texts written found
 
 -- The row of each answer to the check of the certificate in the file of this name, where the files
@@ -260,7 +260,7 @@ abbrev pub IsCheckOfRow : FilesSeen → FilesSeen → JobFiles → List ℕ → 
 IsCheckOfRow old new files name (Ok found) = IsCheckedBy old files name (Ok found)
 IsCheckOfRow old new files name (Err stop.NoMemory) = Unit {0}
 IsCheckOfRow old new files name (Err why) = AreUnread old new files why
-    ⊎ (((texts : JobTexts) × HaveTexts old files texts × IsUnreadCertificate old new name why)
+    ⊎ (((texts : JobTexts) × HaveTexts old files texts × IsUnread a_certificate old new name why)
     ⊎ IsCheckedBy old files name (Err why))
 
 -- ---- all requests

@@ -1,7 +1,6 @@
 pub mod Accepted
 pub mod Answering
 pub mod Asking
-pub mod Blocks
 pub mod Cascades
 pub mod Causes
 pub mod Checking
@@ -9,8 +8,8 @@ pub mod Completeness
 pub mod Ellipsoids
 pub mod Exact
 pub mod FileBytes
+pub mod Files
 pub mod Gain
-pub mod Headline
 pub mod JobRows
 pub mod Loops
 pub mod OneAnswer
@@ -24,6 +23,4 @@ pub mod Sets
 pub mod Simulating
 pub mod Stages
 pub mod States
-pub mod Suffixes
-pub mod Timing
 pub mod Turns

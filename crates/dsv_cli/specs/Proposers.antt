@@ -4,8 +4,8 @@ use Rattle.std.specs.Prelude.{Option, Some, None, Ok, Err, ℤ}
 use Rattle.dsv_forms.specs.declared.offers.FormOffer.{FormOffer}
 use Rattle.dsv_forms.specs.declared.offers.FormOffer.TheVariants as offered
 use Rattle.dsv_closed_forms.specs.ClosedForm.{closed_form_of, are_within, second_limit}
-use Rattle.dsv_cli.specs.Blocks.{AreBlocks}
-use Rattle.dsv_cli.specs.Suffixes.{IsSuffix, IfFirst, HoldsOfNone}
+use Rattle.dsv_base.specs.Lists.{AreBlocks}
+use Rattle.dsv_base.specs.Lists.{IsSuffix, IfFirst, HoldsOfNone}
 use Rattle.dsv_command.specs.Table.{Task, decides, seeks_set, Request, does, kind_of}
 use Rattle.dsv_command.specs.declared.kind.Kind.TheVariants as of_kind
 use Rattle.dsv_names.specs.declared.property.RootProperty.{RootProperty}
@@ -15,7 +15,8 @@ use Rattle.dsv_schur_cohn.specs.Offer.{IsSmall, HasNegativePlace}
 use Rattle.dsv_template.specs.declared.candidate.Candidate.{Candidate}
 use Rattle.dsv_template.specs.declared.kept.KeptSet.{KeptSet}
 use Rattle.dsv_template.specs.declared.shape.Shape.{Shape}
-use Rattle.dsv_cli.specs.Sets.{AreOfJob, told_for}
+use Rattle.dsv_cli.specs.Sets.{AreOfJob}
+use Rattle.dsv_invariant.specs.Sets.{told_for}
 use Rattle.dsv_report.specs.declared.answers.Answer.TheVariants as answer
 use Rattle.dsv_report.specs.declared.stop.Stop.TheVariants as stop
 use Rattle.dsv_report.specs.Stops.{Outcome}

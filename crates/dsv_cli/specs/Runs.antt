@@ -9,7 +9,8 @@ use Rattle.dsv_report.specs.Output.{run_text, certificate_written}
 use Rattle.dsv_report.specs.Report.{status_of}
 use Rattle.dsv_cli.specs.declared.command.Done.{Done}
 use Rattle.dsv_cli.specs.JobRows.{IsAnswered, IsSaid, AreInRow}
-use Rattle.dsv_cli.specs.Headline.{AreKept, IsWritten, IfWhole}
+use Rattle.dsv_base.specs.Seen.{AreKept}
+use Rattle.dsv_base.specs.Taking.{IsWritten, IfWhole}
 use Rattle.dsv_cli.specs.Proposers.{IfNoForm, Wants, is_low, AsksSchurCohn}
 
 -- A run for these arguments: the files before and after it, the sink before and after it, how it is

@@ -7,7 +7,7 @@ use Rattle.dsv_template.specs.declared.verdict.ThreeLogs.{ThreeLogs}
 use Rattle.dsv_template.specs.declared.verdict.Why.{Why}
 use Rattle.dsv_template.specs.declared.verdict.Why.TheVariants as why
 use Rattle.dsv_invariant.specs.Causes.{IsCause}
-use Rattle.dsv_cli.specs.Sets.{IsNotGood}
+use Rattle.dsv_invariant.specs.Sets.{IsNotGood}
 use Rattle.dsv_cli.specs.declared.sets.SetAnswer.{SetAnswer}
 use Rattle.dsv_cli.specs.declared.sets.SetAnswer.TheVariants as answer
 use Rattle.dsv_cli.specs.declared.turns.Turn.{Turn}

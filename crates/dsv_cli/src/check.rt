@@ -1,17 +1,17 @@
 // Checks the certificate in a file against what is in others.
-ghost use Rattle.std.specs.Prelude.{◌≡◌, true};
+ghost use Rattle.std.specs.Prelude.{◌≡◌, true, option_copied};
 ghost use Rattle.dsv_command.specs.Table.{is_checked, kind_of};
 ghost use Rattle.dsv_command.specs.Views.{files_view};
 ghost use Rattle.dsv_cli.specs.Causes.{IsPlain};
 ghost use Rattle.dsv_cli.specs.Checking.{stop_of_check};
-ghost use Rattle.dsv_cli.specs.Headline.{AreKept};
-ghost use Rattle.dsv_cli.specs.JobRows.{IsCheckOfRow, IsOfCheck, of_one, with_plant};
+ghost use Rattle.dsv_base.specs.Seen.{AreKept};
+ghost use Rattle.dsv_cli.specs.JobRows.{ChecksTo, IsCheckOfRow, IsOfCheck};
 ghost use Rattle.dsv_cli.specs.Stages.{kind_in, texts_view};
 
 use crate::evidence::read_certificate;
 use crate::texts::{Texts, read_texts};
 use dsv_base::Files;
-use dsv_certcheck::{CheckRefusal, check, check_loop};
+use dsv_certcheck::{CheckRefusal, check};
 use dsv_certfile::{Certificate, CheckFault};
 use dsv_command::JobFiles;
 use dsv_reader::{Controller, Plant};
@@ -44,38 +44,21 @@ pub(crate) fn check_stop(refusal: CheckRefusal) -> Stop
     }
 }
 
-/// What the check of a certificate against a controller comes to.
+/// What the check of a certificate against a controller, in a loop with the plant if there is one,
+/// comes to.
 fn certificate_answer(
     alloc: Global,
     controller: &Controller,
+    plant: Option<&Plant>,
     certificate: &Certificate,
 ) -> Result<Answer, Stop>
-    ensures found { IsOfCheck (of_one controller.now) certificate.now result }
+    ensures found { ChecksTo controller.now (option_copied plant.entry) certificate.now result }
     ensures plain { IsPlain result }
 {
-    match check(alloc, controller, certificate) {
+    match check(alloc, controller, plant, certificate) {
         Ok(error) => Ok(Answer::Checked {
             certified: *certificate.job(),
             error,
-        }),
-        Err(refusal) => Err(check_stop(refusal)),
-    }
-}
-
-/// What the check of a certificate against a controller and a plant comes to.
-fn loop_certificate_answer(
-    alloc: Global,
-    controller: &Controller,
-    plant: &Plant,
-    certificate: &Certificate,
-) -> Result<Answer, Stop>
-    ensures found { IsOfCheck (with_plant controller.now plant.now) certificate.now result }
-    ensures plain { IsPlain result }
-{
-    match check_loop(alloc, controller, plant, certificate) {
-        Ok(()) => Ok(Answer::Checked {
-            certified: *certificate.job(),
-            error: None,
         }),
         Err(refusal) => Err(check_stop(refusal)),
     }
@@ -88,9 +71,9 @@ fn texts_check(alloc: Global, texts: &Texts, certificate: &Certificate) -> Resul
     ensures plain { IsPlain result }
 {
     match texts {
-        Texts::Controller(controller) => certificate_answer(alloc, controller, certificate),
+        Texts::Controller(controller) => certificate_answer(alloc, controller, None, certificate),
         Texts::Loop { controller, plant } => {
-            loop_certificate_answer(alloc, controller, plant, certificate)
+            certificate_answer(alloc, controller, Some(plant), certificate)
         }
         _ => unreachable!(),
     }

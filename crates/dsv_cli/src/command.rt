@@ -12,7 +12,7 @@ ghost use Rattle.dsv_report.specs.Output.{output_of, certificate_written};
 ghost use Rattle.dsv_report.specs.Reasons.{reason_text};
 ghost use Rattle.dsv_report.specs.Report.{status_of};
 ghost use Rattle.dsv_report.specs.declared.stop.Stop.TheVariants as stop;
-ghost use Rattle.dsv_cli.specs.Headline.{IsWritten, IfWhole};
+ghost use Rattle.dsv_base.specs.Taking.{IsWritten, IfWhole};
 ghost use Rattle.dsv_cli.specs.Proposers.{IsAsked, AreSetsAsked};
 ghost use Rattle.dsv_cli.specs.Proposers.{Wants, Decides, AsksSchurCohn, Seeks};
 ghost use Rattle.dsv_cli.specs.Runs.{IsDone};

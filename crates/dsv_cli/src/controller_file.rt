@@ -1,9 +1,8 @@
 // The controller in a file.
 ghost use Rattle.std.specs.Prelude.{◌≡◌, ◌⊎◌, ◌≤◌, IfOk, IfErr};
-ghost use Rattle.dsv_reader.specs.Texts.{IsFaultOf};
-ghost use Rattle.dsv_cli.specs.Cascades.{IsFileOf};
-ghost use Rattle.dsv_cli.specs.FileBytes.{IsOfController};
-ghost use Rattle.dsv_cli.specs.Headline.{AreKept, IsUnread};
+ghost use Rattle.dsv_cli.specs.FileBytes.{IsOfController, controller_kind};
+ghost use Rattle.dsv_base.specs.Seen.{AreKept};
+ghost use Rattle.dsv_cli.specs.Files.{a_controller, IsFileOf, IsUnread};
 
 use crate::file_bytes::read_bytes;
 use dsv_base::Files;
@@ -19,9 +18,9 @@ pub(crate) fn read_controller<F: Files>(
     files: &mut F,
 ) -> Result<Controller, Stop>
     requires { IsOfController which }
-    ensures controller { IfOk result (IsFileOf (F.seen files.old) name.now) }
+    ensures controller { IfOk result (IsFileOf a_controller (F.seen files.old) name.now) }
     ensures unread { IfErr result
-        (IsUnread which IsFaultOf (F.seen files.old) (F.seen files.new) name.now) }
+        (IsUnread (controller_kind which) (F.seen files.old) (F.seen files.new) name.now) }
     ensures kept { AreKept (F.seen files.old) (F.seen files.new) }
     ensures came { IfOk result (λ c. (F.seen files.old).came ≤ (F.seen files.new).came) }
 {

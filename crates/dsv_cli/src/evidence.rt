@@ -1,11 +1,10 @@
 // What a task names: a certificate or an ellipsoid in a file.
 ghost use Rattle.std.specs.Prelude.{◌≤◌, IfOk, IfErr};
 ghost use Rattle.dsv_command.specs.Views.{task_view};
-ghost use Rattle.dsv_cli.specs.Checking.{IsCertificateOf, IsUnreadCertificate};
-ghost use Rattle.dsv_cli.specs.Ellipsoids.{IsOfferOf, IsUnreadOffer};
-ghost use Rattle.dsv_cli.specs.Headline.{AreKept};
+ghost use Rattle.dsv_base.specs.Seen.{AreKept};
 ghost use Rattle.dsv_cli.specs.JobRows.{HasEvidence, IsEvidenceUnread};
 ghost use Rattle.dsv_cli.specs.Stages.{IsEvidenceFor, evidence_view};
+ghost use Rattle.dsv_cli.specs.Files.{a_certificate, an_ellipsoid, IsFileOf, IsUnread};
 
 use crate::file_bytes::read_bytes;
 use dsv_base::Files;
@@ -28,9 +27,9 @@ pub(crate) fn read_certificate<F: Files>(
     name: &str,
     files: &mut F,
 ) -> Result<Certificate, Stop>
-    ensures spelled { IfOk result (IsCertificateOf (F.seen files.old) name.now) }
+    ensures spelled { IfOk result (IsFileOf a_certificate (F.seen files.old) name.now) }
     ensures unread { IfErr result
-        (IsUnreadCertificate (F.seen files.old) (F.seen files.new) name.now) }
+        (IsUnread a_certificate (F.seen files.old) (F.seen files.new) name.now) }
     ensures kept { AreKept (F.seen files.old) (F.seen files.new) }
 {
     let bytes = read_bytes(alloc, name, WhichFile::Certificate, files)?;
@@ -39,9 +38,10 @@ pub(crate) fn read_certificate<F: Files>(
 
 /// The ellipsoid that the file of this name offers.
 fn read_offer<F: Files>(alloc: Global, name: &str, files: &mut F) -> Result<Ellipsoid, Stop>
-    ensures offered { IfOk result (IsOfferOf (F.seen files.old) name.now) }
+    ensures offered { IfOk result (IsFileOf an_ellipsoid (F.seen files.old) name.now) }
     ensures few { IfOk result (λ offer. offer.form.d ≤ 8) }
-    ensures unread { IfErr result (IsUnreadOffer (F.seen files.old) (F.seen files.new) name.now) }
+    ensures unread { IfErr result
+        (IsUnread an_ellipsoid (F.seen files.old) (F.seen files.new) name.now) }
     ensures kept { AreKept (F.seen files.old) (F.seen files.new) }
 {
     let bytes = read_bytes(alloc, name, WhichFile::Certificate, files)?;

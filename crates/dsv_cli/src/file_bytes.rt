@@ -1,7 +1,7 @@
 // The bytes of the files that the command reads.
 ghost use Rattle.std.specs.Prelude.{◌≡◌, ◌≤◌, ◌^◌, length, IfOk, IfErr, IfSome};
-ghost use Rattle.dsv_cli.specs.Headline.{AreKept};
-ghost use Rattle.dsv_cli.specs.FileBytes.{limit_of, too_long_of, IsUnreadFile};
+ghost use Rattle.dsv_base.specs.Seen.{AreKept};
+ghost use Rattle.dsv_cli.specs.Files.{limit_of, too_long_of, NoneCame};
 
 use dsv_base::{Bytes, Files, ReadEnd, read_all};
 use dsv_report::{CertificateFault, Stop, WhichFile};
@@ -48,7 +48,7 @@ pub(crate) fn read_bytes<F: Files>(
         (λ bytes. IfSome ((F.seen files.old).held name.now) (λ file. bytes ≡ file)) }
     ensures fits { IfOk result (λ bytes. length bytes ≤ limit_of which) }
     ensures unread { IfErr result
-        (IsUnreadFile (F.seen files.old) (F.seen files.new) name.now which) }
+        (NoneCame (F.seen files.old) (F.seen files.new) name.now which) }
     ensures kept { AreKept (F.seen files.old) (F.seen files.new) }
     ensures came { IfOk result (λ bytes. (F.seen files.old).came ≤ (F.seen files.new).came) }
 {

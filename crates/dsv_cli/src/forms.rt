@@ -5,9 +5,9 @@ ghost use Rattle.dsv_jury.specs.Jury.{jury_of};
 ghost use Rattle.dsv_lyapunov.specs.Answers.{offer_in, IsShown};
 ghost use Rattle.dsv_cli.specs.Asking.{form_of, IfChecked, IfNoForm, IsChecked};
 ghost use Rattle.dsv_lyapunov.specs.Kept.{IsRefused, AreRefused};
-ghost use Rattle.dsv_cli.specs.Blocks.{AreBlocks, IsTurn};
+ghost use Rattle.dsv_base.specs.Lists.{AreBlocks, IsTurn};
 ghost use Rattle.dsv_cli.specs.Proposers.{offers_in, told_of, IsBeyond};
-ghost use Rattle.dsv_cli.specs.Suffixes.{IsSuffix, IfFirst, HoldsOfNone};
+ghost use Rattle.dsv_base.specs.Lists.{IsSuffix, IfFirst, HoldsOfNone};
 ghost use Rattle.dsv_cli.specs.Turns.{IfAccepted, IfRefused, IsNotAccepted};
 
 use crate::turns::{Turn, first_accepted};

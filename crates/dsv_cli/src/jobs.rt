@@ -6,7 +6,7 @@ ghost use Rattle.dsv_command.specs.Table.{does, has_cell, kind_of};
 ghost use Rattle.dsv_command.specs.Views.{files_view, job_view, task_view};
 ghost use Rattle.dsv_report.specs.Printing.{HasPlaces};
 ghost use Rattle.dsv_cli.specs.Causes.{IsPlain};
-ghost use Rattle.dsv_cli.specs.Headline.{AreKept};
+ghost use Rattle.dsv_base.specs.Seen.{AreKept};
 ghost use Rattle.dsv_cli.specs.JobRows.{IsTaskDone, of_words};
 ghost use Rattle.dsv_cli.specs.Proposers.{IsAsked, AreSetsAsked, AsksSchurCohn, Decides, Seeks};
 ghost use Rattle.dsv_cli.specs.Proposers.{Wants, Decides, AsksSchurCohn, Seeks};

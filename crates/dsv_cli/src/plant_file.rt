@@ -1,8 +1,8 @@
 // The plant in a file.
 ghost use Rattle.std.specs.Prelude.{◌≤◌, IfOk, IfErr};
 ghost use Rattle.dsv_report.specs.declared.stop.WhichFile.TheVariants as file;
-ghost use Rattle.dsv_cli.specs.Headline.{AreKept, IsUnread};
-ghost use Rattle.dsv_cli.specs.Loops.{IsPlantFault, IsPlantFileOf};
+ghost use Rattle.dsv_base.specs.Seen.{AreKept};
+ghost use Rattle.dsv_cli.specs.Files.{a_plant, IsFileOf, IsUnread};
 
 use crate::file_bytes::read_bytes;
 use dsv_base::Files;
@@ -16,9 +16,9 @@ pub(crate) fn read_plant_file<F: Files>(
     name: &str,
     files: &mut F,
 ) -> Result<Plant, Stop>
-    ensures plant { IfOk result (IsPlantFileOf (F.seen files.old) name.now) }
+    ensures plant { IfOk result (IsFileOf a_plant (F.seen files.old) name.now) }
     ensures unread { IfErr result
-        (IsUnread file.Plant IsPlantFault (F.seen files.old) (F.seen files.new) name.now) }
+        (IsUnread a_plant (F.seen files.old) (F.seen files.new) name.now) }
     ensures kept { AreKept (F.seen files.old) (F.seen files.new) }
     ensures came { IfOk result (λ p. (F.seen files.old).came ≤ (F.seen files.new).came) }
 {

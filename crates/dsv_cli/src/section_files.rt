@@ -1,9 +1,10 @@
 // The controllers in the files of a cascade's sections.
 ghost use Rattle.std.specs.Prelude.{◌≡◌, ◌≤◌, [], ◌∷◌, ◌++◌, length, map, IfOk, IfErr};
 ghost use Rattle.dsv_command.specs.SectionNames.{most_later};
-ghost use Rattle.dsv_cli.specs.Cascades.{AreControllers, IsFileOf, IsLaterUnread};
-ghost use Rattle.dsv_cli.specs.Headline.{AreKept};
+ghost use Rattle.dsv_cli.specs.Cascades.{AreControllers, IsLaterUnread};
+ghost use Rattle.dsv_base.specs.Seen.{AreKept};
 ghost use Rattle.dsv_cli.specs.SectionFiles.{IsFilesUnread};
+ghost use Rattle.dsv_cli.specs.Files.{a_controller, IsFileOf};
 
 use crate::controller_file::read_controller;
 use dsv_base::{Files, NoMemory};
@@ -59,7 +60,8 @@ pub(crate) fn read_sections<F: Files>(
     later: &SectionNames,
     files: &mut F,
 ) -> Result<SectionFiles, Stop>
-    ensures first { IfOk result (λ found. IsFileOf (F.seen files.old) first.now found.first) }
+    ensures first { IfOk result
+        (λ found. IsFileOf a_controller (F.seen files.old) first.now found.first) }
     ensures later { IfOk result (λ found. AreControllers (F.seen files.old)
         (map (λ name. name.now) later.now.items) found.later.items) }
     ensures unread { IfErr result (IsFilesUnread (F.seen files.old) (F.seen files.new) first.now

@@ -6,7 +6,8 @@ ghost use Rattle.dsv_report.specs.declared.stop.Stop.TheVariants as stop;
 ghost use Rattle.std.specs.List.{All};
 ghost use Rattle.dsv_word.specs.Words.{IsWord};
 ghost use Rattle.dsv_cli.specs.Causes.{IsPlain};
-ghost use Rattle.dsv_cli.specs.Simulating.{IsFirstOutside, IsOfRun};
+ghost use Rattle.dsv_cli.specs.Simulating.{IsOfRun};
+ghost use Rattle.dsv_word.specs.Words.{IsFirstOutside};
 
 use dsv_realise::{Asking, Subject};
 use dsv_report::{Answer, Stop};

@@ -1,7 +1,7 @@
 // The state-space controller in a file.
 ghost use Rattle.std.specs.Prelude.{◌≤◌, IfOk, IfErr};
-ghost use Rattle.dsv_cli.specs.Headline.{AreKept};
-ghost use Rattle.dsv_cli.specs.States.{IsStatesFileOf, IsStatesUnread};
+ghost use Rattle.dsv_base.specs.Seen.{AreKept};
+ghost use Rattle.dsv_cli.specs.Files.{a_state_controller, IsFileOf, IsUnread};
 
 use crate::file_bytes::read_bytes;
 use dsv_base::Files;
@@ -15,9 +15,9 @@ pub(crate) fn read_state_file<F: Files>(
     name: &str,
     files: &mut F,
 ) -> Result<StateFile, Stop>
-    ensures controller { IfOk result (IsStatesFileOf (F.seen files.old) name.now) }
+    ensures controller { IfOk result (IsFileOf a_state_controller (F.seen files.old) name.now) }
     ensures unread { IfErr result
-        (IsStatesUnread (F.seen files.old) (F.seen files.new) name.now) }
+        (IsUnread a_state_controller (F.seen files.old) (F.seen files.new) name.now) }
     ensures kept { AreKept (F.seen files.old) (F.seen files.new) }
     ensures came { IfOk result (λ c. (F.seen files.old).came ≤ (F.seen files.new).came) }
 {

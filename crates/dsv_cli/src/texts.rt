@@ -4,7 +4,7 @@ ghost use Rattle.dsv_certfile.specs.Lawful.{IsWords};
 ghost use Rattle.dsv_certfile.specs.Words.{words_for};
 ghost use Rattle.dsv_command.specs.Table.{cascade_loop, plant_loop};
 ghost use Rattle.dsv_command.specs.Views.{files_view, names_view};
-ghost use Rattle.dsv_cli.specs.Headline.{AreKept};
+ghost use Rattle.dsv_base.specs.Seen.{AreKept};
 ghost use Rattle.dsv_cli.specs.JobRows.{AreUnread, HaveTexts, IsSaidOf};
 ghost use Rattle.dsv_cli.specs.Stages.{texts_view};
 

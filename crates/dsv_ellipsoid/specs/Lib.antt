@@ -3,6 +3,7 @@ pub mod Entries
 pub mod Good
 pub mod Intervals
 pub mod Refusals
+pub mod Shown
 pub mod Sizes
 pub mod Stages
 pub mod Sums

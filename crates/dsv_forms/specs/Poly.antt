@@ -1,5 +1,5 @@
 -- Polynomials with whole coefficients, the leading one first.
-use Rattle.std.specs.Prelude.{ℕ, ◌<◌, ◌≤◌, ◌^◌, List, length}
+use Rattle.std.specs.Prelude.{ℕ, ◌-◌, ◌<◌, ◌≤◌, ◌^◌, List, length}
 use Rattle.std.specs.Prelude.{All, ℤ, pos, ◌<ℤ◌, slice_index_or}
 use Rattle.std.specs.Int.RustNames.{unsigned_abs}
 
@@ -10,6 +10,10 @@ most_coefficients = 9
 -- the greatest order of a polynomial, the most places of a form
 abbrev pub greatest_order : ℕ
 greatest_order = 8
+
+-- the order of a polynomial
+abbrev pub degree : List ℤ → ℕ
+degree poly = length poly - 1
 
 -- the greatest size of a coefficient
 abbrev pub greatest_coefficient : ℕ

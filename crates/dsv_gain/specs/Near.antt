@@ -20,6 +20,7 @@ use Rattle.dsv_roundoff.specs.Written.{RunsAsWritten}
 use Rattle.dsv_roundoff.specs.declared.offers.WordRange.{WordRange}
 use Rattle.dsv_roundoff.specs.declared.offers.RoundoffOffer.{RoundoffOffer}
 use Rattle.dsv_gain.specs.Errors.{error_of}
+use Rattle.dsv_gain.specs.declared.roundoff.ErrorBound.{ErrorBound}
 
 -- both ends are words
 pub record HasWords (format : Format) (w : WordRange) : Type 0 where
@@ -86,3 +87,9 @@ AlwaysNear q r = (xs : List ℤ) → AreInRange q.xlo q.xhi xs
 abbrev pub ControllersStayNear : Type 0
 ControllersStayNear = (q : QuantisedView) → IsQuantisedView q → (offer : RoundoffOffer) (r : Range)
     → error_of (net_of q) offer ≡ Some r → StaysNear q r
+
+-- In every sample of every run over inputs in range, of any length, the output less that of the
+-- exact run of the written equations lies in the range that the offer shows.
+pub record IsBoundOf (q : QuantisedView) (bound : ErrorBound) : Type 0 where
+  pub shown : error_of (net_of q) bound.offer ≡ Some bound.output
+  pub near : AlwaysNear q bound.output

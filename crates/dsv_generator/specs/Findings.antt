@@ -1,5 +1,5 @@
 -- What is found of a generated quantised controller.
-use Rattle.std.specs.Prelude.{◌≡◌, ℕ, ◌-◌, List, length, Some, Ok, ℤ}
+use Rattle.std.specs.Prelude.{◌≡◌, List, Some, Ok, ℤ}
 use Rattle.dsv_algebra.specs.Vectors.{vector_of, matrix_of}
 use Rattle.dsv_algebra.specs.Companion.{StrictlyFallsAlong, IsKeptAwayAlong}
 use Rattle.dsv_names.specs.declared.property.RunProperty.TheVariants as run
@@ -7,6 +7,7 @@ use Rattle.dsv_quantiser.specs.QuantisedView.{QuantisedView}
 use Rattle.dsv_forms.specs.declared.offers.Falls.{Falls}
 use Rattle.dsv_forms.specs.declared.offers.KeptAway.{KeptAway}
 use Rattle.dsv_forms.specs.declared.offers.FormOffer.TheVariants as offered
+use Rattle.dsv_forms.specs.Poly.{degree}
 use Rattle.dsv_closed_forms.specs.ClosedForm.{closed_form_of}
 use Rattle.dsv_tested.specs.Tested.{tested_of}
 use Rattle.dsv_tested.specs.declared.side.Side.{Side}
@@ -23,9 +24,6 @@ use Rattle.dsv_generator.specs.declared.finding.RootFinding.TheVariants as root
 use Rattle.dsv_generator.specs.Limits.{generated_samples, generated_conflicts}
 use Rattle.dsv_realise.specs.Runs.{IsTrace}
 use Rattle.dsv_realise.specs.Controllers.{of_controller}
-
-abbrev pub degree : List ℤ → ℕ
-degree poly = length poly - 1
 
 -- The closed form of the polynomial is a form that is positive and strictly falls along every
 -- nonzero trajectory.

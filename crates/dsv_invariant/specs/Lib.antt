@@ -4,4 +4,5 @@ pub mod Formulas
 pub mod Limits
 pub mod Netlists
 pub mod Obstacles
+pub mod Sets
 pub mod Shapes

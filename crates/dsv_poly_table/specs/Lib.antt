@@ -1,2 +1,3 @@
 pub mod Recursion
 pub mod Sections
+pub mod Shown

@@ -4,7 +4,7 @@
 -- With A in words and q = 2^frac_bits the step is A divided by q. So that all numbers are whole,
 -- what the form P loses is q^2 P - A^T P A: Lyapunov's test for discrete systems.
 use Rattle.std.specs.Prelude.{◌≡◌, ℕ, ◌^◌, ◌<◌, ◌≤◌, ◌⊎◌, List, [], ◌∷◌, ◌++◌}
-use Rattle.std.specs.Prelude.{map, Option, ℤ, pos, neg_ℤ, ◌*ℤ◌}
+use Rattle.std.specs.Prelude.{map, Option, None, ℤ, pos, neg_ℤ, ◌*ℤ◌}
 use Rattle.std.specs.List.{flat_map}
 use Rattle.dsv_algebra.specs.Companion.{total_from}
 use Rattle.dsv_algebra.specs.Falling.{StrictlyFalls, fall_form}
@@ -79,3 +79,11 @@ state_falls_tests d q A offer =
 abbrev pub state_falls_refusal : StateView → Falls → Option FormRefusal
 state_falls_refusal s offer =
     first_of (state_falls_tests (states s) (one_of s) (matrix_of s.a) offer)
+
+-- The form is positive at every vector of integers but 0, and less after a step; its check accepts
+-- it, and `fall` is what it loses in a step. There are so many states.
+pub record ShowsStateFall (s : StateView) (many : ℕ) (offer : Falls) (fall : Form) : Type 0 where
+  pub counted : many ≡ states s
+  pub falls : FallsAlongStates s offer.form
+  pub accepted : state_falls_refusal s offer ≡ None
+  pub loss : IsStateLoss s offer.form fall

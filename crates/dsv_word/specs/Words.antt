@@ -1,6 +1,8 @@
 -- Words of n bits in two's complement.
 use Rattle.std.specs.Prelude.{◌≡◌, ℕ, ◌+◌, ◌-◌, ◌^◌, if◌then◌else◌, ℤ, pos}
 use Rattle.std.specs.Prelude.{neg_ℤ, ◌+ℤ◌, ◌-ℤ◌, ◌*ℤ◌, ◌≤ℤ◌, ◌<ℤ◌, int_lt}
+use Rattle.std.specs.Prelude.{List, take, slice_get, Some}
+use Rattle.std.specs.List.{All}
 use Rattle.std.specs.Int.{int_rem_euclid}
 use Rattle.dsv_word.specs.declared.format.Format.{Format}
 use Rattle.dsv_names.specs.declared.overflow_mode.OverflowMode.{OverflowMode}
@@ -51,3 +53,9 @@ pub record IsNearest (n : ℕ) (v w : ℤ) : Type 0 where
 abbrev pub IsFitted : OverflowMode → ℕ → ℤ → ℤ → Type 0
 IsFitted overflow_mode.Wrap n v w = IsWrapped n v w
 IsFitted overflow_mode.Saturate n v w = IsNearest n v w
+
+-- The first input that is no word of the format has this number, counted from 0, and is this.
+pub record IsFirstOutside (format : Format) (inputs : List ℤ) (index : ℕ) (value : ℤ) : Type 0 where
+  pub there : slice_get inputs index ≡ Some value
+  pub outside : IsWord format value → ⊥
+  pub before : All (IsWord format) (take index inputs)

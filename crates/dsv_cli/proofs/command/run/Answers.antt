@@ -7,7 +7,7 @@ use Rattle.dsv_command.specs.Requests.{reason_of, request_of}
 use Rattle.dsv_report.specs.Output.{output_of, certificate_written}
 use Rattle.dsv_report.specs.Report.{status_of}
 use Rattle.dsv_report.specs.declared.stop.Stop.TheVariants as stop
-use Rattle.dsv_cli.specs.Headline.{IsWritten, IfWhole}
+use Rattle.dsv_base.specs.Taking.{IsWritten, IfWhole}
 use Rattle.dsv_cli.specs.Proposers.{AreSetsAsked, IsAsked, Wants, Decides, AsksSchurCohn, Seeks}
 use Rattle.dsv_cli.specs.Stages.{IsSaidBeside}
 use Rattle.dsv_cli.proofs.RunRows.{done_by, asks_why, asks_nothing}

@@ -1,14 +1,14 @@
-use Rattle.std.proofs.Common.{◌≡◌, rules}
+use Rattle.std.proofs.Common.{◌≡◌, rules, inl}
 use Rattle.std.specs.Prelude.{Err}
 use Rattle.dsv_report.specs.Stops.{stop_of_text}
-use Rattle.dsv_cli.proofs.FileBytes.{certificate_unread, certificate_faulty}
+use Rattle.dsv_cli.proofs.FileBytes.{certificate_faulty}
 use Rattle.dsv_cli.proofs.evidence.read_certificate.Goals as goal
 
 pub returns-in_err-bytes-clause-unread : goal.returns-in_err-bytes-clause-unread
 returns-in_err-bytes-clause-unread g c =
     let why = c.in_err-bytes.field-0.0 in
     let is : c.from_residual.result ≡ Err why = search rules in
-    rw is (certificate_unread (g.F.Files.seen c.args.files.now) (g.F.Files.seen c.read_bytes.new.files) c.args.name.now why c.in_err-bytes.ensures.unread)
+    rw is (inl c.in_err-bytes.ensures.unread)
 
 pub returns-in_err-read-clause-unread : goal.returns-in_err-read-clause-unread
 returns-in_err-read-clause-unread g c =
@@ -22,5 +22,5 @@ pub returns-clause-spelled : goal.returns-clause-spelled
 returns-clause-spelled g c = (
   c.in_ok-bytes.bytes,
   c.in_ok-bytes.ensures.whole,
-  record { short = c.in_ok-bytes.ensures.fits; spelled = rw c.as_slice.ensures at c.in_ok-read.ensures.answer },
+  (c.in_ok-bytes.ensures.fits, rw c.as_slice.ensures at c.in_ok-read.ensures.answer),
 )

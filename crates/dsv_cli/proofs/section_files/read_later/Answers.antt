@@ -2,14 +2,11 @@ use Rattle.std.proofs.Common.{rules, ◌≡◌, ◌<◌, ◌≤◌, ◌+◌, ℕ
 use Rattle.std.specs.Prelude.{Err}
 use Rattle.std.proofs.lemmas.List.{length-map}
 use Rattle.std.proofs.lemmas.Option.{slice_get_read}
-use Rattle.dsv_cli.specs.Cascades.{IsFileOf}
-use Rattle.dsv_cli.specs.Headline.{IsUnread}
-use Rattle.dsv_reader.specs.Texts.{IsFaultOf}
-use Rattle.dsv_report.specs.declared.stop.WhichFile.TheVariants as file
 use Rattle.dsv_cli.proofs.Pairwise.{pairs_more}
-use Rattle.dsv_cli.proofs.SectionFiles.{controller_earlier, later_unread, kept_on, named}
-use Rattle.dsv_cli.proofs.FileBytes.{file_earlier}
+use Rattle.dsv_cli.proofs.SectionFiles.{later_unread, kept_on, named}
+use Rattle.dsv_cli.proofs.FileBytes.{file_earlier, text_earlier}
 use Rattle.dsv_cli.proofs.section_files.read_later.Goals as goal
+use Rattle.dsv_cli.specs.Files.{a_controller, a_section, IsFileOf, IsUnread}
 
 abbrev texts : List (Bor (List ℕ)) → List (List ℕ)
 texts names = map (λ name. name.now) names
@@ -27,10 +24,10 @@ returns-in_err-controller-clause-unread g c =
     let inside : i < length c.args.names.now = c.loop-i-test.true in
     let long : i < length (texts c.args.names.now) = omega (arith, inside, length-map c.args.names.now (λ (n : Bor (List ℕ)). n.now)) in
     let next : i + 1 ≡ suc i = omega arith in
-    let unread : IsUnread (file.Section (suc i)) IsFaultOf then new name.now why = subst (λ (section : ℕ). IsUnread (file.Section section) IsFaultOf then new name.now why) next c.in_err-controller.ensures.unread in
+    let unread : IsUnread (a_section (suc i)) then new name.now why = subst (λ (section : ℕ). IsUnread (a_section section) then new name.now why) next c.in_err-controller.ensures.unread in
     rw is (later_unread old new (texts c.args.names.now) i name.now c.loop-i.controllers.items why
     (slice_get_read (texts c.args.names.now) (length (texts c.args.names.now)) i name.now refl long (named c.args.names.now i no_name inside))
-    c.loop-i.invariant.0 (file_earlier IsFaultOf old then new name.now (file.Section (suc i)) why c.loop-i.invariant.1 c.loop-i.invariant.2 unread))
+    c.loop-i.invariant.0 (file_earlier (a_section (suc i)) old then new name.now why c.loop-i.invariant.1 c.loop-i.invariant.2 unread))
 
 pub loop-i-preserved : goal.loop-i-preserved
 loop-i-preserved g c =
@@ -43,8 +40,8 @@ loop-i-preserved g c =
     let inside : i < length c.args.names.now = c.loop-i-test.true in
     let long : i < length (texts c.args.names.now) = omega (arith, inside, length-map c.args.names.now (λ (n : Bor (List ℕ)). n.now)) in
     let came : then.came ≤ new.came = c.in_ok-controller.ensures.came in (
-      rw c.in_ok-push_item.ensures (pairs_more (IsFileOf old) (texts c.args.names.now) c.loop-i.controllers.items i name.now c.in_ok-controller.controller long
-          (named c.args.names.now i no_name inside) c.loop-i.invariant.0 (controller_earlier old then name.now c.in_ok-controller.controller c.loop-i.invariant.1 c.in_ok-controller.ensures.controller)),
+      rw c.in_ok-push_item.ensures (pairs_more (IsFileOf a_controller old) (texts c.args.names.now) c.loop-i.controllers.items i name.now c.in_ok-controller.controller long
+          (named c.args.names.now i no_name inside) c.loop-i.invariant.0 (text_earlier a_controller old then name.now c.in_ok-controller.controller c.loop-i.invariant.1 c.in_ok-controller.ensures.controller)),
       kept_on old then new c.loop-i.invariant.1 c.read_controller.ensures.kept,
       omega (arith, c.loop-i.invariant.2, came),
     )

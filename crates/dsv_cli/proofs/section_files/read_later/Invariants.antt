@@ -1,6 +1,6 @@
 use Rattle.std.proofs.Common.{◌≤◌, map, take}
 use Rattle.dsv_cli.specs.Cascades.{AreControllers}
-use Rattle.dsv_cli.specs.Headline.{AreKept}
+use Rattle.dsv_base.specs.Seen.{AreKept}
 use Rattle.dsv_cli.proofs.section_files.read_later.Given as goal
 
 abbrev pub invariant-loop-i : goal.invariant-loop-i

@@ -1,10 +1,11 @@
 use Rattle.std.proofs.Common.{rules, ◌≡◌, ℕ, List, Bor, map, inr, arith}
 use Rattle.std.specs.Prelude.{Err}
 use Rattle.std.proofs.lemmas.List.{length-map}
-use Rattle.dsv_cli.specs.Cascades.{IsFileOf, AreControllers, IsLaterUnread}
+use Rattle.dsv_cli.specs.Cascades.{AreControllers, IsLaterUnread}
 use Rattle.dsv_cli.proofs.Pairwise.{pairs_long}
 use Rattle.dsv_cli.proofs.SectionFiles.{files_earlier, later_earlier}
 use Rattle.dsv_cli.proofs.section_files.read_sections.Goals as goal
+use Rattle.dsv_cli.specs.Files.{a_controller, IsFileOf}
 
 abbrev texts : List (Bor (List ℕ)) → List (List ℕ)
 texts names = map (λ name. name.now) names
@@ -32,4 +33,4 @@ pub invariant_of-result : goal.invariant_of-result
 invariant_of-result g c =
     let then = g.F.Files.seen c.read_controller.new.files in
     let slice = c.as_slice.result.now in
-    omega (arith, pairs_long (IsFileOf then) (texts slice) c.in_ok-later.later.items c.in_ok-later.ensures.controllers, length-map slice (λ (n : Bor (List ℕ)). n.now), c.as_slice.ensures.fits)
+    omega (arith, pairs_long (IsFileOf a_controller then) (texts slice) c.in_ok-later.later.items c.in_ok-later.ensures.controllers, length-map slice (λ (n : Bor (List ℕ)). n.now), c.as_slice.ensures.fits)

@@ -1,5 +1,5 @@
 use Rattle.std.proofs.Common.{rules, of_calls}
-use Rattle.dsv_cli.specs.Sets.{IsNotGood}
+use Rattle.dsv_invariant.specs.Sets.{IsNotGood}
 use Rattle.dsv_cli.proofs.Asked.{suffix, causes, blocks}
 use Rattle.dsv_cli.proofs.sets.asked_sets.Goals as goal
 

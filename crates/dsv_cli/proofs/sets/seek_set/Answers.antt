@@ -1,8 +1,8 @@
 use Rattle.std.proofs.Common.{subst}
 use Rattle.dsv_quantiser.specs.QuantisedView.{QuantisedView}
-use Rattle.dsv_cli.specs.Blocks.{AreBlocks}
+use Rattle.dsv_base.specs.Lists.{AreBlocks}
 use Rattle.dsv_cli.specs.SetAsking.{IfNoSet}
-use Rattle.dsv_cli.specs.Sets.{candidates, told_for}
+use Rattle.dsv_invariant.specs.Sets.{candidates, told_for}
 use Rattle.dsv_cli.proofs.sets.seek_set.Goals as goal
 
 pub returns-clause-blocks : goal.returns-clause-blocks

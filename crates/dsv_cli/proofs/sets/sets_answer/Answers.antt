@@ -1,5 +1,5 @@
 use Rattle.std.proofs.Common.{refl}
-use Rattle.dsv_cli.specs.Sets.{told_for}
+use Rattle.dsv_invariant.specs.Sets.{told_for}
 use Rattle.dsv_cli.proofs.OfferedSets.{were_offered}
 use Rattle.dsv_cli.proofs.sets.sets_answer.Goals as goal
 

@@ -1,9 +1,8 @@
 use Rattle.std.proofs.Common.{◌≡◌, rules, inr}
 use Rattle.std.specs.Prelude.{Err}
 use Rattle.dsv_command.specs.Views.{names_view}
-use Rattle.dsv_cli.proofs.LoopRows.{plant_file_earlier}
-use Rattle.dsv_cli.proofs.FileBytes.{file_earlier}
-use Rattle.dsv_cli.specs.Loops.{IsPlantFault}
+use Rattle.dsv_cli.proofs.FileBytes.{file_earlier, text_earlier}
+use Rattle.dsv_cli.specs.Files.{a_plant}
 use Rattle.dsv_report.specs.declared.stop.WhichFile.TheVariants as file
 use Rattle.dsv_cli.proofs.SectionFiles.{kept_on, sections_unread}
 use Rattle.dsv_cli.proofs.texts.read_cascade_loop.Goals as goal
@@ -23,7 +22,7 @@ returns-in_err-plant-clause-unread g c =
     let is : c.from_residual-in_err-plant.result ≡ Err why = search rules in
     let found = c.in_ok-sections.sections in
     let have = c.in_ok-sections.ensures in
-    rw is (inr (inr (found.first, found.later.items, have.first, have.later, file_earlier IsPlantFault old then new c.args.plant.now file.Plant why c.read_sections.ensures.kept have.came c.in_err-plant.ensures.unread)))
+    rw is (inr (inr (found.first, found.later.items, have.first, have.later, file_earlier a_plant old then new c.args.plant.now why c.read_sections.ensures.kept have.came c.in_err-plant.ensures.unread)))
 
 pub returns-in_err-plant-clause-kept : goal.returns-in_err-plant-clause-kept
 returns-in_err-plant-clause-kept g c =
@@ -38,4 +37,4 @@ returns-clause-texts g c =
     let old = g.F.Files.seen c.args.files.now in
     let then = g.F.Files.seen c.read_sections.new.files in
     let have = c.in_ok-sections.ensures in
-    (have.first, have.later, plant_file_earlier old then c.args.plant.now c.in_ok-plant.plant c.read_sections.ensures.kept c.in_ok-plant.ensures.plant)
+    (have.first, have.later, text_earlier a_plant old then c.args.plant.now c.in_ok-plant.plant c.read_sections.ensures.kept c.in_ok-plant.ensures.plant)
