@@ -309,13 +309,13 @@ STOPPED = [
          "small/modes.dsv --property stability"),
     Kind("A line after `--why`", 1, r"(?!USAGE\n)[^\n]+\n", "why the line is not valid: the first reason", "what the reason names",
          "--why small/modes.dsv --property OVERFLOW --x-size 65"),
-    Kind("The controller's file", 3, r"READ FAULT CONTROLLER\n", "it can't be read", "look at its name and rights",
+    Kind("The controller's file", 3, r"READ FAULT CONTROLLER\n", "it can't be read", "standard error names it, and says why",
          "small/none.dsv --property STABILITY"),
-    Kind("The plant's file", 3, r"READ FAULT PLANT\n", "it can't be read", "look at its name and rights",
+    Kind("The plant's file", 3, r"READ FAULT PLANT\n", "it can't be read", "standard error names it, and says why",
          "small/half_pole.dsv --property STABILITY --plant small/none.dsv"),
     Kind("A section's file", 3, r"READ FAULT SECTION [1-7]\n", "that of this section of a cascade can't be read",
-         "look at its name and rights", "small/half_pole.dsv --sections small/half_pole.dsv,small/none.dsv --property STABILITY"),
-    Kind("The certificate's file", 3, r"READ FAULT CERTIFICATE\n", "it can't be read", "look at its name and rights",
+         "standard error names it, and says why", "small/half_pole.dsv --sections small/half_pole.dsv,small/none.dsv --property STABILITY"),
+    Kind("The certificate's file", 3, r"READ FAULT CERTIFICATE\n", "it can't be read", "standard error names it, and says why",
          "small/order_two.dsv --check small/none.cert"),
     Kind("The output", 4, r"OUTPUT\n", "it failed, after a prefix of the text", "look at the disk", None, "none stands here"),
     Kind("Memory", 5, r"NO MEMORY\n", "out of memory", "fewer samples", None, "none stands here"),
@@ -393,7 +393,7 @@ HEAD = """\
 Every answer, with an example from the stored runs of `cases/`, where one stands there. docs/answers.py writes this
 page. Numbers of inputs, outputs, registers and exact values are words: w stands for w / 2^frac_bits. The program writes
 nothing to standard error; the launcher `./dsv` says there what it does as long as the program isn't proved and built, and
-what helps after a refusal.
+what helps after a refusal or a read fault.
 """
 
 SECTIONS = [
@@ -403,7 +403,10 @@ SECTIONS = [
     ("STABILITY of a cascade", None, SERIES),
     ("STABILITY of a loop", None, LOOPS),
     ("STABILITY of a state-space controller", None, STATES),
-    ("TIMING", None, TIMES),
+    ("TIMING",
+     "Each product is charged its rounding, and each product and each sum its fitting into a word, with `wide` too, which rounds and "
+     "fits once a line. So for a file with `wide` the cycles are an upper bound; `cost_round` and `cost_fit` may be 0 where the processor "
+     "has them for nothing, as with an accumulator that is wide and saturates.", TIMES),
     ("Other answers", None, OTHERS),
     ("Refused files: status 2",
      "`at` is a byte's place, from 0 on; the launcher says its line and column. docs/FILE.md says where each refusal stands, "
