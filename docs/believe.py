@@ -159,7 +159,7 @@ def first_sentence(note):
 
 # ---- the page
 
-HEADLINE = ("JobRows", "Files", "Checking", "Searching", "Gain", "Simulating", "Cascades", "States", "Loops", "Proposers", "OneAnswer", "Completeness", "Accepted", "Exact")
+HEADLINE = ("JobRows", "JobTexts", "Files", "Checking", "Searching", "Gain", "Simulating", "Cascades", "States", "Loops", "Proposers", "OneAnswer", "Completeness", "Accepted", "Exact")
 LONG = 30
 PAGE = (
     ("The call", "What `run` says of an answer, whatever the arguments, the files and the sink.",
@@ -214,7 +214,7 @@ def place_of(key):
 
 def is_of_headline(key):
     crate, file = place_of(key)
-    return crate == "dsv_cli" and file in HEADLINE
+    return crate in ("dsv_cli", "dsv_files") and file in HEADLINE
 
 
 def gloss(note):

@@ -28,8 +28,9 @@ use Rattle.dsv_report.specs.declared.stop.Stop.{Stop}
 use Rattle.dsv_report.specs.declared.stop.Stop.TheVariants as stop
 use Rattle.dsv_report.specs.Stops.{Outcome}
 use Rattle.dsv_cli.specs.Accepted.{Accepts, HoldsTheSame, HoldTheSame, WrittenAreAccepted, check_of}
-use Rattle.dsv_cli.specs.Files.{IsLost, a_controller, a_plant, a_state_controller, a_certificate, longest_certificate, IsFileOf}
-use Rattle.dsv_cli.specs.JobRows.{JobTexts, of_one, of_state_file, with_plant, HaveTexts, AreUnread, Evidence, certificate, ellipsoid, none, HasEvidence, JobWords, of_words, of_state_words, BecomeJobWords, AreWordless, IsTaskDone, IsDoneBy, IsOfCheck, IsCheckOfRow, IsJobRow, IsAnswered, IsSaidOf}
+use Rattle.dsv_files.specs.Files.{IsLost, a_controller, a_plant, a_state_controller, a_certificate, longest_certificate, IsFileOf}
+use Rattle.dsv_cli.specs.JobRows.{JobWords, of_words, of_state_words, BecomeJobWords, AreWordless, IsTaskDone, IsDoneBy, IsOfCheck, IsCheckOfRow, IsJobRow, IsAnswered}
+use Rattle.dsv_files.specs.JobTexts.{JobTexts, of_one, of_state_file, with_plant, HaveTexts, AreUnread, Evidence, certificate, ellipsoid, none, HasEvidence, IsSaidOf}
 use Rattle.dsv_cli.specs.States.{IsOfForm}
 use Rattle.dsv_cli.proofs.CertifiedWords.{IsAcceptable, PassesFor, PassesForStates, controller_fits, loop_fits, states_fit}
 use Rattle.dsv_cli.proofs.Exact.{one_file, file_lost, one_written, words_lost, job_words_once}

@@ -75,7 +75,8 @@ use Rattle.dsv_tested.specs.Tested.{side_of, tested_of}
 use Rattle.dsv_cli.specs.Causes.{IsOfProperty}
 use Rattle.dsv_lyapunov.specs.Shown.{ShowsFall}
 use Rattle.dsv_poly_table.specs.Shown.{ShowsTable}
-use Rattle.dsv_cli.specs.JobRows.{of_one, of_state_file, with_plant, Evidence, of_words, of_state_words, IsTaskDone}
+use Rattle.dsv_cli.specs.JobRows.{of_words, of_state_words, IsTaskDone}
+use Rattle.dsv_files.specs.JobTexts.{of_one, of_state_file, with_plant, Evidence}
 use Rattle.dsv_cli.specs.Loops.{IsOfLoop}
 
 -- With its places alone the certificate passes its check and is read back from its text.

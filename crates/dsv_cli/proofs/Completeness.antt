@@ -13,12 +13,13 @@ use Rattle.dsv_report.specs.declared.stop.Stop.TheVariants as stop
 use Rattle.dsv_report.specs.declared.stop.WhichFile.{WhichFile}
 use Rattle.dsv_report.specs.declared.verdict.Verdict.{Verdict}
 use Rattle.dsv_report.specs.declared.verdict.Verdict.TheVariants.{Successful, Failed, Inconclusive, Simulation, Plain}
-use Rattle.dsv_cli.specs.Cascades.{IsLaterUnread}
+use Rattle.dsv_files.specs.JobTexts.{IsLaterUnread}
 use Rattle.dsv_cli.specs.Completeness.{IsVerdict, IsRefusedByNone, IsDecidedBy, AreDecided}
-use Rattle.dsv_cli.specs.JobRows.{JobTexts, of_one, of_sections, of_state_file, with_plant, sections_with_plant, AreUnread, IsEvidenceUnread, AreWordless, IsJobRow, IsCheckOfRow, IsAnswered}
+use Rattle.dsv_cli.specs.JobRows.{AreWordless, IsJobRow, IsCheckOfRow, IsAnswered}
+use Rattle.dsv_files.specs.JobTexts.{JobTexts, of_one, of_sections, of_state_file, with_plant, sections_with_plant, AreUnread, IsEvidenceUnread}
 use Rattle.dsv_cli.proofs.ExactTasks.{no_task_fault, no_check_fault}
-use Rattle.dsv_cli.specs.Files.{a_controller, a_section, a_state_controller, a_plant, a_certificate, an_ellipsoid}
-use Rattle.dsv_cli.proofs.FileBytes.{file_rose}
+use Rattle.dsv_files.specs.Files.{a_controller, a_section, a_state_controller, a_plant, a_certificate, an_ellipsoid}
+use Rattle.dsv_files.proofs.FileBytes.{file_rose}
 
 answer_verdict : (v : Verdict) → IsVerdict (verdict_status v)
 answer_verdict Successful = inl refl

@@ -43,13 +43,15 @@ use Rattle.dsv_report.specs.declared.stop.WhichFile.{WhichFile}
 use Rattle.dsv_report.specs.declared.stop.WhichFile.TheVariants as file
 use Rattle.dsv_report.specs.Stops.{Outcome, stop_of_text}
 use Rattle.dsv_cli.specs.Accepted.{HoldsTheSame, AreTheSame, HoldTheSame}
-use Rattle.dsv_cli.specs.Cascades.{AreControllers, IsLaterUnread, BecomeWords, IsNoCascade}
+use Rattle.dsv_cli.specs.Cascades.{BecomeWords, IsNoCascade}
+use Rattle.dsv_files.specs.JobTexts.{AreControllers, IsLaterUnread}
 use Rattle.dsv_cli.specs.Exact.{NamesTheSame, IsToldTheSame, RefusalsComeExactly}
 use Rattle.dsv_cli.specs.Causes.{IsOfGeneration}
-use Rattle.dsv_cli.specs.Files.{IsLost, FileKind, a_controller, a_section, a_state_controller, a_plant, a_certificate, an_ellipsoid, which_of, limit_of, too_long_of, NoneCame, Content, IsText, IsRefusedBy, IsFaulty, IsFileOf, IsUnread}
-use Rattle.dsv_cli.specs.JobRows.{JobTexts, of_one, of_sections, of_state_file, with_plant, sections_with_plant, HaveTexts, AreUnread, Evidence, none, certificate, ellipsoid, HasEvidence, IsEvidenceUnread, JobWords, of_words, of_series, of_state_words, BecomeJobWords, IsWordless, AreWordless, LacksEvidence, LacksWords, IsTaskDone, IsDoneBy, IsOfCheck, IsCheckedBy, IsAnswered}
+use Rattle.dsv_files.specs.Files.{IsLost, FileKind, a_controller, a_section, a_state_controller, a_plant, a_certificate, an_ellipsoid, which_of, limit_of, too_long_of, NoneCame, Content, IsText, IsRefusedBy, IsFaulty, IsFileOf, IsUnread}
+use Rattle.dsv_cli.specs.JobRows.{JobWords, of_words, of_series, of_state_words, BecomeJobWords, IsWordless, AreWordless, LacksEvidence, LacksWords, IsTaskDone, IsDoneBy, IsOfCheck, IsCheckedBy, IsAnswered}
+use Rattle.dsv_files.specs.JobTexts.{JobTexts, of_one, of_sections, of_state_file, with_plant, sections_with_plant, HaveTexts, AreUnread, Evidence, none, certificate, ellipsoid, HasEvidence, IsEvidenceUnread}
 use Rattle.dsv_cli.proofs.ExactTasks.{stopped_by, IsThis, task_exact, check_exact}
-use Rattle.dsv_cli.proofs.Pairwise.{pair_at, pair_before, at_place, before_place}
+use Rattle.dsv_files.proofs.Pairwise.{pair_at, pair_before, at_place, before_place}
 
 -- ---- what the bytes of a file come to
 -- they are over a limit, or their reading refuses them, or they are read

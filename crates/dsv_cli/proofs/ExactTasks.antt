@@ -41,15 +41,16 @@ use Rattle.dsv_report.specs.Stops.{Outcome}
 use Rattle.dsv_cli.specs.Causes.{IsDecision, IsOfSets, IsOfTiming}
 use Rattle.dsv_cli.specs.Checking.{stop_of_check}
 use Rattle.dsv_cli.specs.Ellipsoids.{IsOfOffer, IsOfSoughtEllipsoid}
-use Rattle.dsv_cli.specs.Files.{IsLost}
+use Rattle.dsv_files.specs.Files.{IsLost}
 use Rattle.dsv_cli.specs.Gain.{IsOfGain}
-use Rattle.dsv_cli.specs.JobRows.{JobTexts, of_one, of_sections, of_state_file, with_plant, sections_with_plant, Evidence, certificate, ellipsoid, JobWords, of_words, of_series, of_state_words, subject_of, ErrorIs, IsOfSections, IsTaskDone, ChecksTo, IsOfCheck}
+use Rattle.dsv_cli.specs.JobRows.{JobWords, of_words, of_series, of_state_words, subject_of, ErrorIs, IsOfSections, IsTaskDone, ChecksTo, IsOfCheck}
+use Rattle.dsv_files.specs.JobTexts.{JobTexts, of_one, of_sections, of_state_file, with_plant, sections_with_plant, Evidence, certificate, ellipsoid}
 use Rattle.dsv_cli.specs.Loops.{IsOfLoop}
 use Rattle.dsv_cli.specs.Searching.{IsOfFormula, IsOfSearch}
 use Rattle.dsv_cli.specs.Simulating.{IsOfRun}
 use Rattle.dsv_cli.specs.States.{IsOfForm, IsOfStateTable}
 use Rattle.dsv_cli.proofs.OneAnswerTasks.{one_outside, within_or_large}
-use Rattle.dsv_cli.proofs.Pairwise.{at_place}
+use Rattle.dsv_files.proofs.Pairwise.{at_place}
 
 abbrev pub stopped_by : Stop → Outcome
 stopped_by why = Err why

@@ -11,7 +11,7 @@ use Rattle.dsv_report.specs.Stops.{Outcome}
 use Rattle.dsv_cli.specs.Accepted.{HoldsTheSame, HoldTheSame}
 use Rattle.dsv_cli.specs.Exact.{NamesTheSame, IsToldTheSame}
 use Rattle.dsv_cli.specs.Causes.{IsOfGeneration}
-use Rattle.dsv_cli.specs.Files.{IsLost}
+use Rattle.dsv_files.specs.Files.{IsLost}
 use Rattle.dsv_cli.specs.JobRows.{IsTaskDone, IsDoneBy, IsOfCheck, IsCheckedBy, BecomeJobWords, IsAnswered}
 use Rattle.dsv_cli.specs.OneAnswer.{SameAnswer, IsSettled, HaveOneAnswer}
 use Rattle.dsv_cli.proofs.Exact.{come_exactly, texts_once, evidence_same, job_words_once, one_written, told_back}

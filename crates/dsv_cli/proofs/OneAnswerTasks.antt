@@ -48,7 +48,8 @@ use Rattle.dsv_bounded.specs.RunQuestions.{Happens, IsCycle}
 use Rattle.dsv_bounded.proofs.Verdicts.{trace_breaks, cycle_cycles}
 use Rattle.dsv_cli.specs.Causes.{IsDecision, IsOfProperty, IsOfTiming, IsOfSets}
 use Rattle.dsv_cli.specs.Ellipsoids.{IsOfOffer, IsOfSoughtEllipsoid}
-use Rattle.dsv_cli.specs.JobRows.{JobTexts, of_one, of_sections, of_state_file, with_plant, sections_with_plant, Evidence, certificate, ellipsoid, JobWords, of_words, of_series, of_state_words, subject_of, ErrorIs, IsOfSections, IsTaskDone, IsOfCheck}
+use Rattle.dsv_cli.specs.JobRows.{JobWords, of_words, of_series, of_state_words, subject_of, ErrorIs, IsOfSections, IsTaskDone, IsOfCheck}
+use Rattle.dsv_files.specs.JobTexts.{JobTexts, of_one, of_sections, of_state_file, with_plant, sections_with_plant, Evidence, certificate, ellipsoid}
 use Rattle.dsv_cli.specs.Loops.{IsOfLoop}
 use Rattle.dsv_cli.specs.States.{IsOfForm, IsOfSoughtForm, IsOfStateTable}
 use Rattle.dsv_timing.specs.Cycles.{IsTimingOf, IsOnTime}
@@ -63,7 +64,7 @@ use Rattle.dsv_realise.specs.Runs.{IsTrace}
 use Rattle.dsv_realise.specs.Controllers.{of_controller}
 use Rattle.dsv_cli.proofs.OneForms.{one_fall, offer_falls, offer_kept_away, kinds_apart, one_closed, value_of}
 use Rattle.dsv_cli.proofs.OneSections.{one_judgement, one_tabling}
-use Rattle.dsv_cli.proofs.Pairwise.{before_place}
+use Rattle.dsv_files.proofs.Pairwise.{before_place}
 
 -- ---- decisions
 falls_once : (p q : List ℤ) (o u : Falls) (f g : Form) → HasClosedForm p → p ≡ q → ShowsFall p o f → ShowsFall q u g → SameAnswer (Ok (answer.Falls p o f)) (Ok (answer.Falls q u g))

@@ -33,7 +33,7 @@ use Rattle.dsv_poly_table.specs.declared.sections.SectionTables.{SectionTables}
 use Rattle.dsv_poly_table.specs.declared.sections.SectionTables.TheVariants as tables
 use Rattle.dsv_cli.specs.OneAnswer.{SameOffer, SameFault, SameForms}
 use Rattle.dsv_cli.proofs.OneForms.{one_fall, offer_falls, offer_kept_away, value_of}
-use Rattle.dsv_cli.proofs.Pairwise.{before_place}
+use Rattle.dsv_files.proofs.Pairwise.{before_place}
 
 -- ---- one polynomial, one form
 one_poly : (came : Result Tested PolyWide) (p q : List ℤ) → came ≡ Ok (tested.Poly p) → came ≡ Ok (tested.Poly q) → p ≡ q

@@ -13,12 +13,13 @@ use Rattle.dsv_template.specs.declared.shape.Shape.{Shape}
 use Rattle.dsv_report.specs.declared.stop.Stop.{Stop}
 use Rattle.dsv_report.specs.declared.stop.Stop.TheVariants as stop
 use Rattle.dsv_report.specs.Stops.{Outcome}
-use Rattle.dsv_cli.specs.JobRows.{JobTexts, of_one, of_sections, of_state_file, with_plant, sections_with_plant, HaveTexts, AreUnread, Evidence, none, certificate, ellipsoid, HasEvidence, IsEvidenceUnread, AreWordless, IsDoneBy, IsOfCheck, IsCheckedBy, IsCheckOfRow, of_words, IsNothing, IsSaidOf}
+use Rattle.dsv_cli.specs.JobRows.{AreWordless, IsDoneBy, IsOfCheck, IsCheckedBy, IsCheckOfRow, of_words, IsNothing}
+use Rattle.dsv_files.specs.JobTexts.{JobTexts, of_one, of_sections, of_state_file, with_plant, sections_with_plant, HaveTexts, AreUnread, Evidence, none, certificate, ellipsoid, HasEvidence, IsEvidenceUnread, IsSaidOf}
 use Rattle.dsv_cli.specs.Proposers.{AreSetsAsked}
 use Rattle.dsv_cli.specs.Stages.{kind_in, IsAlone, IsDoneFor, IsRowFor, IsRowWith, IsSaidBeside}
-use Rattle.dsv_cli.proofs.FileBytes.{file_earlier, text_earlier}
+use Rattle.dsv_files.proofs.FileBytes.{file_earlier, text_earlier}
 use Rattle.dsv_cli.proofs.Unasked.{sets_of_stop}
-use Rattle.dsv_cli.specs.Files.{a_certificate, an_ellipsoid, IsFileOf, IsUnread}
+use Rattle.dsv_files.specs.Files.{a_certificate, an_ellipsoid, IsFileOf, IsUnread}
 
 -- ---- evidence, from files that were read earlier
 evidence_earlier : (old then : FilesSeen) (task : Task) (e : Evidence) → AreKept old then → HasEvidence then task e → HasEvidence old task e

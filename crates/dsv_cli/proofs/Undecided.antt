@@ -17,7 +17,8 @@ use Rattle.dsv_cli.specs.Causes.{IsOfProperty}
 use Rattle.dsv_command.specs.Table.{Task, decides, checks_form, checks_ellipsoid, searches, measures_gain, simulates, Request, does, checks, generates}
 use Rattle.dsv_report.specs.declared.answers.Answer.TheVariants as answer
 use Rattle.dsv_report.specs.Stops.{Outcome}
-use Rattle.dsv_cli.specs.JobRows.{JobTexts, of_one, of_sections, of_state_file, with_plant, sections_with_plant, Evidence, certificate, ellipsoid, JobWords, of_words, of_series, of_state_words, IsOfSections, IsTaskDone, IsOfCheck, IsAnswered}
+use Rattle.dsv_cli.specs.JobRows.{JobWords, of_words, of_series, of_state_words, IsOfSections, IsTaskDone, IsOfCheck, IsAnswered}
+use Rattle.dsv_files.specs.JobTexts.{JobTexts, of_one, of_sections, of_state_file, with_plant, sections_with_plant, Evidence, certificate, ellipsoid}
 use Rattle.dsv_cli.specs.Loops.{IsOfLoop}
 use Rattle.dsv_cli.specs.Proposers.{AsksSchurCohn, IfNoForm, Wants, is_low}
 use Rattle.dsv_cli.proofs.Unasked.{no_low}

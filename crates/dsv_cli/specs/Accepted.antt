@@ -17,9 +17,8 @@ use Rattle.dsv_report.specs.declared.answers.Answer.{Answer}
 use Rattle.dsv_report.specs.declared.answers.Answer.TheVariants as answer
 use Rattle.dsv_report.specs.Stops.{Outcome}
 use Rattle.dsv_base.specs.Lists.{Pairwise}
-use Rattle.dsv_cli.specs.Files.{IsLost}
+use Rattle.dsv_files.specs.Files.{IsLost, longest_certificate}
 use Rattle.dsv_cli.specs.JobRows.{IsAnswered, IsSaid}
-use Rattle.dsv_cli.specs.Files.{longest_certificate}
 
 -- the request that checks the certificate in the file of this name for what is in these files; a
 -- state-space controller's is a job in this design that takes it as a form

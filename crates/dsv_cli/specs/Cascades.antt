@@ -1,7 +1,6 @@
 -- What the files of a cascade have, and which words they become.
 use Rattle.std.specs.Prelude.{◌≡◌, ℕ, suc, List, ◌∷◌, take, slice_get}
 use Rattle.std.specs.Prelude.{Some, Ok, Err}
-use Rattle.dsv_base.specs.Seen.{FilesSeen}
 use Rattle.dsv_names.specs.declared.design.Design.{Design}
 use Rattle.dsv_reader.specs.Controllers.{ControllerView}
 use Rattle.dsv_quantiser.specs.QuantisedView.{QuantisedView}
@@ -10,22 +9,9 @@ use Rattle.dsv_cascade.specs.Sections.{IsRefused}
 use Rattle.dsv_report.specs.declared.stop.Stop.{Stop}
 use Rattle.dsv_report.specs.declared.stop.Stop.TheVariants as stop
 use Rattle.dsv_report.specs.declared.stop.WhichFile.TheVariants as file
-use Rattle.dsv_cli.specs.Files.{a_controller, a_section, IsFileOf, IsUnread}
 use Rattle.dsv_base.specs.Lists.{Pairwise}
 
 -- ---- the files of the sections
--- so have the files of these names
-abbrev pub AreControllers : FilesSeen → List (List ℕ) → List ControllerView → Type 0
-AreControllers old = Pairwise (IsFileOf a_controller old)
-
--- what keeps one of the later files from being a controller's, where those before it are
--- controllers'
-abbrev pub IsLaterUnread : FilesSeen → FilesSeen → List (List ℕ) → Stop → Type 0
-IsLaterUnread old new names stop.NoMemory = Unit {0}
-IsLaterUnread old new names why = (i : ℕ) × (name : List ℕ) × (slice_get names i ≡ Some name)
-    × (before : List ControllerView) × AreControllers old (take i names) before
-    × IsUnread (a_section (suc i)) old new name why
-
 -- ---- the sections
 -- these controllers become these words in the design
 abbrev pub BecomeWords : Design → List ControllerView → List QuantisedView → Type 0

@@ -6,7 +6,7 @@ use Rattle.dsv_command.specs.Table.{does, checks, generates}
 use Rattle.dsv_report.specs.declared.stop.Stop.{Stop}
 use Rattle.dsv_report.specs.Stops.{Outcome}
 use Rattle.dsv_cli.specs.Accepted.{HoldsTheSame, HoldTheSame}
-use Rattle.dsv_cli.specs.Files.{IsLost}
+use Rattle.dsv_files.specs.Files.{IsLost}
 use Rattle.dsv_cli.specs.JobRows.{IsAnswered}
 
 -- the file that a task names, if it names one, holds the same bytes, which are told

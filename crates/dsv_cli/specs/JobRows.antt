@@ -17,22 +17,19 @@ use Rattle.dsv_cascade.specs.Sections.{IsCascade}
 use Rattle.dsv_cascade.specs.Subjects.{of_cascade}
 use Rattle.dsv_cascade.specs.Stability.{AreJudged}
 use Rattle.dsv_poly_table.specs.Sections.{AreTabled}
-use Rattle.dsv_state_file.specs.StateFiles.{StateFileView}
 use Rattle.dsv_state_space.specs.Quantising.{BecomesStates}
 use Rattle.dsv_state_space.specs.StateView.{StateView}
 use Rattle.dsv_state_space.specs.Subjects.{of_states}
 use Rattle.dsv_loop.specs.Loops.{loop_of}
-use Rattle.dsv_certfile.specs.Words.{words_for}
 use Rattle.dsv_certcheck.specs.Found.{IsChecked}
 use Rattle.dsv_certcheck.specs.Shown.{IsShownOf, IsNearOf}
 use Rattle.dsv_certcheck.specs.declared.check_refusal.CheckRefusal.{CheckRefusal}
 use Rattle.dsv_certfile.specs.Texts.{job_of}
 use Rattle.dsv_certfile.specs.declared.certificate.Certificate.{Certificate}
-use Rattle.dsv_certfile.specs.declared.ellipsoid.Ellipsoid.{Ellipsoid}
 use Rattle.dsv_certfile.specs.declared.job.CertWords.{CertWords}
 use Rattle.dsv_certfile.specs.declared.job.CertWords.TheVariants as words
-use Rattle.dsv_command.specs.Table.{JobFiles, controller, cascade, states, plant_loop}
-use Rattle.dsv_command.specs.Table.{cascade_loop, Task, decides, checks_time, writes, searches}
+use Rattle.dsv_command.specs.Table.{JobFiles}
+use Rattle.dsv_command.specs.Table.{Task, decides, checks_time, writes, searches}
 use Rattle.dsv_command.specs.Table.{seeks_set, measures_gain, simulates, checks_form, seeks_form}
 use Rattle.dsv_command.specs.Table.{checks_ellipsoid, seeks_ellipsoid, Request, does, checks}
 use Rattle.dsv_command.specs.Table.{generates}
@@ -42,8 +39,7 @@ use Rattle.dsv_report.specs.declared.stop.Stop.{Stop}
 use Rattle.dsv_report.specs.declared.stop.Stop.TheVariants as stop
 use Rattle.dsv_report.specs.declared.stop.WhichFile.TheVariants as file
 use Rattle.dsv_report.specs.Stops.{Outcome}
-use Rattle.dsv_cli.specs.Cascades.{AreControllers, BecomeWords, IsNoCascade}
-use Rattle.dsv_cli.specs.Cascades.{IsLaterUnread}
+use Rattle.dsv_cli.specs.Cascades.{BecomeWords, IsNoCascade}
 use Rattle.dsv_cli.specs.Causes.{IsOfProperty, IsOfSets, IsOfTiming}
 use Rattle.dsv_cli.specs.Checking.{stop_of_check}
 use Rattle.dsv_cli.specs.Ellipsoids.{IsOfOffer, IsOfSoughtEllipsoid}
@@ -54,68 +50,14 @@ use Rattle.dsv_cli.specs.Searching.{IsOfFormula, IsOfSearch}
 use Rattle.dsv_cli.specs.Simulating.{IsOfRun}
 use Rattle.dsv_cli.specs.States.{IsOfSoughtForm, IsOfStateTable}
 use Rattle.dsv_cli.specs.States.{IsOfForm}
-use Rattle.dsv_cli.specs.Files.{a_controller, a_state_controller, a_plant, a_certificate}
-use Rattle.dsv_cli.specs.Files.{an_ellipsoid, IsFileOf, IsUnread}
+use Rattle.dsv_files.specs.Files.{a_certificate, IsFileOf, IsUnread}
+use Rattle.dsv_files.specs.JobTexts.{JobTexts, of_one, of_sections, of_state_file, with_plant}
+use Rattle.dsv_files.specs.JobTexts.{sections_with_plant, HaveTexts, AreUnread, Evidence}
+use Rattle.dsv_files.specs.JobTexts.{certificate, ellipsoid, HasEvidence, IsEvidenceUnread}
+use Rattle.dsv_files.specs.JobTexts.{IsSaidOf}
 
 -- ---- the files
--- what the files of a job have the texts of
-pub data JobTexts : Type 0 where
-  of_one : ControllerView → JobTexts
-  -- the first section and the later ones
-  of_sections : ControllerView → List ControllerView → JobTexts
-  of_state_file : StateFileView → JobTexts
-  with_plant : ControllerView → PlantView → JobTexts
-  sections_with_plant : ControllerView → List ControllerView → PlantView → JobTexts
-
--- the files have these texts
-abbrev pub HaveTexts : FilesSeen → JobFiles → JobTexts → Type 0
-HaveTexts old (controller name) (of_one c) = IsFileOf a_controller old name c
-HaveTexts old (cascade name later) (of_sections c cs) =
-    IsFileOf a_controller old name c × AreControllers old later cs
-HaveTexts old (states name) (of_state_file c) = IsFileOf a_state_controller old name c
-HaveTexts old (plant_loop name plant) (with_plant c p) =
-    IsFileOf a_controller old name c × IsFileOf a_plant old plant p
-HaveTexts old (cascade_loop name later plant) (sections_with_plant c cs p) =
-    IsFileOf a_controller old name c × AreControllers old later cs × IsFileOf a_plant old plant p
-HaveTexts old files texts = ⊥
-
--- what keeps the first file from being the one that it has to be, or a later one, where those
--- before it are
-abbrev pub AreUnread : FilesSeen → FilesSeen → JobFiles → Stop → Type 0
-AreUnread old new (controller name) why = IsUnread a_controller old new name why
-AreUnread old new (cascade name later) why = IsUnread a_controller old new name why
-    ⊎ ((c : ControllerView) × IsFileOf a_controller old name c × IsLaterUnread old new later why)
-AreUnread old new (states name) why = IsUnread a_state_controller old new name why
-AreUnread old new (plant_loop name plant) why = IsUnread a_controller old new name why
-    ⊎ ((c : ControllerView) × IsFileOf a_controller old name c
-    × IsUnread a_plant old new plant why)
-AreUnread old new (cascade_loop name later plant) why =
-    IsUnread a_controller old new name why
-    ⊎ (((c : ControllerView) × IsFileOf a_controller old name c × IsLaterUnread old new later why)
-    ⊎ ((c : ControllerView) × (cs : List ControllerView) × IsFileOf a_controller old name c
-    × AreControllers old later cs × IsUnread a_plant old new plant why))
-
 -- ---- what a task names
-pub data Evidence : Type 0 where
-  none : Evidence
-  certificate : Certificate → Evidence
-  ellipsoid : Ellipsoid → Evidence
-
--- the file that the task names, if it does, has this
-abbrev pub HasEvidence : FilesSeen → Task → Evidence → Type 0
-HasEvidence old (checks_form name) (certificate c) = IsFileOf a_certificate old name c
-HasEvidence old (checks_form name) other = ⊥
-HasEvidence old (checks_ellipsoid name) (ellipsoid offer) = IsFileOf an_ellipsoid old name offer
-HasEvidence old (checks_ellipsoid name) other = ⊥
-HasEvidence old task none = Unit {0}
-HasEvidence old task other = ⊥
-
--- what keeps the file that the task names from having it
-abbrev pub IsEvidenceUnread : FilesSeen → FilesSeen → Task → Stop → Type 0
-IsEvidenceUnread old new (checks_form name) why = IsUnread a_certificate old new name why
-IsEvidenceUnread old new (checks_ellipsoid name) why = IsUnread an_ellipsoid old new name why
-IsEvidenceUnread old new task why = ⊥
-
 -- ---- the words
 pub data JobWords : Type 0 where
   of_words : QuantisedView → JobWords
@@ -277,16 +219,6 @@ IsAnswered old new (Some (generates seed count)) found =
     IsOfGeneration seed count found × (new ≡ old)
 
 -- ---- what is said beside the row
--- How many states are said of what files have, and what certificates say of its words: of a
--- controller alone or in its loop nothing but its format, of a state-space controller both, and of
--- cascades nothing.
-abbrev pub IsSaidOf : JobTexts → ℕ → CertWords → Type 0
-IsSaidOf (of_one c) many said = (many ≡ 0) × (said ≡ words_for c.int_bits c.frac_bits)
-IsSaidOf (with_plant c p) many said = (many ≡ 0) × (said ≡ words_for c.int_bits c.frac_bits)
-IsSaidOf (of_state_file c) many said =
-    (many ≡ c.states) × (said ≡ words_for c.int_bits c.frac_bits)
-IsSaidOf texts many said = (many ≡ 0) × (said ≡ words.Unsaid)
-
 -- nothing is said
 abbrev pub IsNothing : ℕ → CertWords → Type 0
 IsNothing many said = (many ≡ 0) × (said ≡ words.Unsaid)

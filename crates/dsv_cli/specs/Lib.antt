@@ -7,8 +7,6 @@ pub mod Checking
 pub mod Completeness
 pub mod Ellipsoids
 pub mod Exact
-pub mod FileBytes
-pub mod Files
 pub mod Gain
 pub mod JobRows
 pub mod Loops
@@ -17,7 +15,6 @@ pub mod Proposers
 pub mod RunTasks
 pub mod Runs
 pub mod Searching
-pub mod SectionFiles
 pub mod SetAsking
 pub mod Sets
 pub mod Simulating

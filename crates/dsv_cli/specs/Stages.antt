@@ -1,50 +1,25 @@
 -- For private contracts: what the stages of a job give, as the table has it.
-use Rattle.std.specs.Prelude.{◌≡◌, ◌⊎◌, ◌≤◌, ℕ, Option, Ok, Err}
+use Rattle.std.specs.Prelude.{◌≡◌, ◌⊎◌, ℕ, Option, Ok, Err}
 use Rattle.dsv_base.specs.Seen.{FilesSeen}
 use Rattle.dsv_names.specs.declared.design.Design.{Design}
 use Rattle.dsv_quantiser.specs.QuantisedView.{QuantisedView}
 use Rattle.dsv_certfile.specs.declared.job.CertWords.{CertWords}
-use Rattle.dsv_command.specs.Table.{Request, Task, decides, seeks_set, checks_form}
-use Rattle.dsv_command.specs.Table.{checks_ellipsoid}
+use Rattle.dsv_command.specs.Table.{Request, Task, decides, seeks_set}
 use Rattle.dsv_command.specs.declared.kind.Kind.{Kind}
 use Rattle.dsv_command.specs.declared.kind.Kind.TheVariants as of_kind
 use Rattle.dsv_report.specs.declared.stop.Stop.TheVariants as stop
 use Rattle.dsv_report.specs.Stops.{Outcome}
-use Rattle.dsv_cli.specs.JobRows as rows
-use Rattle.dsv_cli.specs.JobRows.{JobTexts, of_one, of_sections, of_state_file, with_plant}
-use Rattle.dsv_cli.specs.JobRows.{sections_with_plant, none, certificate, ellipsoid, HasEvidence}
-use Rattle.dsv_cli.specs.JobRows.{IsEvidenceUnread, JobWords, of_words, of_series}
+use Rattle.dsv_files.specs.JobTexts as rows
+use Rattle.dsv_files.specs.JobTexts.{JobTexts, of_one, of_sections, of_state_file, with_plant}
+use Rattle.dsv_files.specs.JobTexts.{sections_with_plant, HasEvidence, IsEvidenceUnread}
+use Rattle.dsv_cli.specs.JobRows.{JobWords, of_words, of_series}
 use Rattle.dsv_cli.specs.JobRows.{of_state_words, BecomeJobWords, AreWordless, IsTaskDone}
 use Rattle.dsv_cli.specs.JobRows.{IsAnswered, IsSaid, AreInRow}
-use Rattle.dsv_cli.specs.declared.evidence.Evidence.{Evidence}
-use Rattle.dsv_cli.specs.declared.evidence.Evidence.TheVariants as of_evidence
+use Rattle.dsv_files.specs.declared.evidence.Evidence.{Evidence}
 use Rattle.dsv_cli.specs.declared.in_words.InWords.{InWords}
 use Rattle.dsv_cli.specs.declared.in_words.InWords.TheVariants as in_words
-use Rattle.dsv_cli.specs.declared.texts.Texts.{Texts}
-use Rattle.dsv_cli.specs.declared.texts.Texts.TheVariants as texts
 
 -- ---- what came of files
-abbrev pub texts_view : Texts → JobTexts
-texts_view (texts.Controller c) = of_one c
-texts_view (texts.Cascade s) = of_sections s.first s.later.items
-texts_view (texts.States c) = of_state_file c
-texts_view (texts.Loop c p) = with_plant c p
-texts_view (texts.CascadeLoop s p) = sections_with_plant s.first s.later.items p
-
-abbrev pub evidence_view : Evidence → rows.Evidence
-evidence_view of_evidence.Nothing = none
-evidence_view (of_evidence.Certificate c) = certificate c
-evidence_view (of_evidence.Ellipsoid offer) = ellipsoid offer
-
--- a task has such evidence as it names; the form of an ellipsoid has at most eight places
-abbrev pub IsEvidenceFor : Task → rows.Evidence → Type 0
-IsEvidenceFor (checks_form name) (certificate c) = Unit {0}
-IsEvidenceFor (checks_form name) other = ⊥
-IsEvidenceFor (checks_ellipsoid name) (ellipsoid offer) = offer.form.d ≤ 8
-IsEvidenceFor (checks_ellipsoid name) other = ⊥
-IsEvidenceFor task none = Unit {0}
-IsEvidenceFor task other = ⊥
-
 -- ---- in words
 abbrev pub texts_in : InWords → JobTexts
 texts_in (in_words.Controller c q) = of_one c.now

@@ -7,8 +7,8 @@ ghost use Rattle.dsv_quantiser.specs.declared.refusal.QuantRefusal.{QuantRefusal
 ghost use Rattle.dsv_cli.specs.Cascades.{BecomeWords, IsLaterRefused, IsNoCascade};
 ghost use Rattle.dsv_report.specs.declared.stop.Stop.TheVariants as stop;
 
-use crate::section_files::{SectionFiles, push_item};
 use dsv_cascade::Cascade;
+use dsv_files::{SectionFiles, push_item};
 use dsv_names::Design;
 use dsv_quantiser::{Quantised, quantise_in};
 use dsv_reader::Controller;

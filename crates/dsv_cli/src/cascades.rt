@@ -5,7 +5,8 @@ ghost use Rattle.dsv_command.specs.Views.{task_view};
 ghost use Rattle.dsv_command.specs.declared.kind.Kind.TheVariants as of_kind;
 ghost use Rattle.dsv_reader.specs.Controllers.{ControllerView};
 ghost use Rattle.dsv_cli.specs.Causes.{IsPlain};
-ghost use Rattle.dsv_cli.specs.JobRows.{Evidence, IsOfSections, IsTaskDone, of_sections, of_series};
+ghost use Rattle.dsv_cli.specs.JobRows.{IsOfSections, IsTaskDone, of_series};
+ghost use Rattle.dsv_files.specs.JobTexts.{Evidence, of_sections};
 
 use crate::run_task::RunTask;
 use crate::run_tasks::run_answer;

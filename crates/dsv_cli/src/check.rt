@@ -6,14 +6,14 @@ ghost use Rattle.dsv_cli.specs.Causes.{IsPlain};
 ghost use Rattle.dsv_cli.specs.Checking.{stop_of_check};
 ghost use Rattle.dsv_base.specs.Seen.{AreKept};
 ghost use Rattle.dsv_cli.specs.JobRows.{ChecksTo, IsCheckOfRow, IsOfCheck};
-ghost use Rattle.dsv_cli.specs.Stages.{kind_in, texts_view};
+ghost use Rattle.dsv_cli.specs.Stages.{kind_in};
+ghost use Rattle.dsv_files.specs.Views.{texts_view};
 
-use crate::evidence::read_certificate;
-use crate::texts::{Texts, read_texts};
 use dsv_base::Files;
 use dsv_certcheck::{CheckRefusal, check};
 use dsv_certfile::{Certificate, CheckFault};
 use dsv_command::JobFiles;
+use dsv_files::{Texts, read_certificate, read_texts};
 use dsv_reader::{Controller, Plant};
 use dsv_report::{Answer, CertificateFault, Stop, WhichFile};
 use std::alloc::Global;

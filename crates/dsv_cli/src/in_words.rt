@@ -1,12 +1,12 @@
 // The words that what files have becomes in a design.
 ghost use Rattle.std.specs.Prelude.{◌≡◌, IfOk, IfErr};
 ghost use Rattle.dsv_cli.specs.JobRows.{AreWordless, BecomeJobWords};
-ghost use Rattle.dsv_cli.specs.Stages.{texts_in, texts_view, words_in};
+ghost use Rattle.dsv_cli.specs.Stages.{texts_in, words_in};
+ghost use Rattle.dsv_files.specs.Views.{texts_view};
 
 use crate::cascade_words::{quantise_file, quantised_cascade};
-use crate::section_files::SectionFiles;
-use crate::texts::Texts;
 use dsv_cascade::Cascade;
+use dsv_files::{SectionFiles, Texts};
 use dsv_names::Design;
 use dsv_quantiser::Quantised;
 use dsv_reader::{Controller, Plant};

@@ -3,7 +3,7 @@ use Rattle.std.specs.Prelude.{Ok, Err}
 use Rattle.std.proofs.lemmas.List.{take_all}
 use Rattle.dsv_quantiser.specs.Modes.{BecomesWords}
 use Rattle.dsv_cli.proofs.CascadeRows.{later_refused}
-use Rattle.dsv_cli.proofs.Pairwise.{pairs_more, pairs_long}
+use Rattle.dsv_files.proofs.Pairwise.{pairs_more, pairs_long}
 use Rattle.dsv_cli.proofs.cascade_words.quantise_later.Goals as goal
 
 pub returns-in_err-quantised-clause-refused : goal.returns-in_err-quantised-clause-refused

@@ -2,8 +2,8 @@ use Rattle.std.proofs.Common.{◌≡◌, rules, true, subst}
 use Rattle.std.specs.Prelude.{Err}
 use Rattle.dsv_command.specs.Table.{is_checked}
 use Rattle.dsv_command.specs.Views.{files_view}
-use Rattle.dsv_cli.specs.Stages.{texts_view}
-use Rattle.dsv_cli.proofs.SectionFiles.{kept_on}
+use Rattle.dsv_files.specs.Views.{texts_view}
+use Rattle.dsv_files.proofs.LaterFiles.{kept_on}
 use Rattle.dsv_cli.proofs.Stages.{kind_of_texts, no_checked_texts, no_certificate, row_of_check}
 use Rattle.dsv_cli.proofs.check.check_outcome.Goals as goal
 

@@ -3,8 +3,9 @@ use Rattle.std.specs.Prelude.{Err}
 use Rattle.dsv_command.specs.Table.{does, has_cell}
 use Rattle.dsv_command.specs.Views.{files_view, job_view, task_view}
 use Rattle.dsv_cli.specs.Proposers.{AreSetsAsked, AsksSchurCohn, Wants}
-use Rattle.dsv_cli.specs.Stages.{IsAlone, IsSaidBeside, texts_view}
-use Rattle.dsv_cli.proofs.SectionFiles.{kept_on}
+use Rattle.dsv_cli.specs.Stages.{IsAlone, IsSaidBeside}
+use Rattle.dsv_files.specs.Views.{texts_view}
+use Rattle.dsv_files.proofs.LaterFiles.{kept_on}
 use Rattle.dsv_cli.proofs.Stages.{alone_kind, kind_of_texts, texts_beside, unread_beside}
 use Rattle.dsv_cli.proofs.Unasked.{own_for, sets_unasked}
 use Rattle.dsv_cli.proofs.jobs.job_outcome.Goals as goal

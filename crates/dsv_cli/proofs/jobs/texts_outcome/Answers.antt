@@ -3,7 +3,8 @@ use Rattle.std.specs.Prelude.{Err}
 use Rattle.dsv_command.specs.Table.{has_cell}
 use Rattle.dsv_command.specs.Views.{task_view}
 use Rattle.dsv_cli.specs.Proposers.{AsksSchurCohn}
-use Rattle.dsv_cli.specs.Stages.{IsAlone, evidence_view, kind_in, texts_view, words_in}
+use Rattle.dsv_cli.specs.Stages.{IsAlone, kind_in, words_in}
+use Rattle.dsv_files.specs.Views.{evidence_view, texts_view}
 use Rattle.dsv_cli.proofs.Stages.{lacks_evidence, lacks_words, row_with}
 use Rattle.dsv_cli.proofs.Unasked.{unasked, sets_unasked}
 use Rattle.dsv_cli.proofs.jobs.texts_outcome.Goals as goal

@@ -1,0 +1,4 @@
+pub mod FileBytes
+pub mod LaterFiles
+pub mod Told
+pub mod Pairwise

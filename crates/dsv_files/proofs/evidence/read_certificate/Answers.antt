@@ -1,0 +1,26 @@
+use Rattle.std.proofs.Common.{◌≡◌, rules, inl}
+use Rattle.std.specs.Prelude.{Err}
+use Rattle.dsv_report.specs.Stops.{stop_of_text}
+use Rattle.dsv_files.proofs.FileBytes.{certificate_faulty}
+use Rattle.dsv_files.proofs.evidence.read_certificate.Goals as goal
+
+pub returns-in_err-bytes-clause-unread : goal.returns-in_err-bytes-clause-unread
+returns-in_err-bytes-clause-unread g c =
+    let why = c.in_err-bytes.field-0.0 in
+    let is : c.from_residual.result ≡ Err why = search rules in
+    rw is (inl c.in_err-bytes.ensures.unread)
+
+pub returns-in_err-read-clause-unread : goal.returns-in_err-read-clause-unread
+returns-in_err-read-clause-unread g c =
+    let old = g.F.Files.seen c.args.files.now in
+    let r = c.in_err-read.field-0.0 in
+    let is : c.from_residual-in_err-read.result ≡ Err (stop_of_text r) = search rules in
+    rw is (certificate_faulty old (g.F.Files.seen c.read_bytes.new.files) c.args.name.now c.in_ok-bytes.bytes r c.in_ok-bytes.ensures.whole c.in_ok-bytes.ensures.fits
+    (rw c.as_slice.ensures at c.in_err-read.ensures.answer))
+
+pub returns-clause-spelled : goal.returns-clause-spelled
+returns-clause-spelled g c = (
+  c.in_ok-bytes.bytes,
+  c.in_ok-bytes.ensures.whole,
+  (c.in_ok-bytes.ensures.fits, rw c.as_slice.ensures at c.in_ok-read.ensures.answer),
+)

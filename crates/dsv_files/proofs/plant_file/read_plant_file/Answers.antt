@@ -1,0 +1,21 @@
+use Rattle.std.proofs.Common.{◌≡◌, rules, subst, inl}
+use Rattle.std.specs.Prelude.{Err}
+use Rattle.dsv_reader.specs.Texts.{IsPlantText}
+use Rattle.dsv_files.proofs.FileBytes.{plant_faulty}
+use Rattle.dsv_files.proofs.plant_file.read_plant_file.Goals as goal
+
+pub returns-in_err-bytes-clause-unread : goal.returns-in_err-bytes-clause-unread
+returns-in_err-bytes-clause-unread g c =
+    let why = c.in_err-bytes.field-0.0 in
+    let is : c.from_residual.result ≡ Err why = search rules in
+    rw is (inl c.in_err-bytes.ensures.unread)
+
+pub returns-clause-unread : goal.returns-clause-unread
+returns-clause-unread g c =
+    rw c.of_file.ensures (plant_faulty (g.F.Files.seen c.args.files.now) (g.F.Files.seen c.read_bytes.new.files) c.args.name.now c.in_ok-bytes.bytes c.in-Err.refusal c.in_ok-bytes.ensures.whole c.in_ok-bytes.ensures.fits
+    (rw c.as_slice.ensures at c.in-Err.ensures.value))
+
+pub returns-in-Ok-clause-plant : goal.returns-in-Ok-clause-plant
+returns-in-Ok-clause-plant g c =
+    let plant = c.in-Ok.plant in
+    (c.in_ok-bytes.bytes, c.in_ok-bytes.ensures.whole, (c.in_ok-bytes.ensures.fits, subst (λ bytes. IsPlantText bytes plant) c.as_slice.ensures c.in-Ok.ensures.text))

@@ -1,0 +1,5 @@
+pub mod FileBytes
+pub mod Files
+pub mod LaterFiles
+pub mod JobTexts
+pub mod Views

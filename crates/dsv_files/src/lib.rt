@@ -1,0 +1,14 @@
+//! The files that a job names: what each has by its kind, and what keeps it from that.
+#![tactic(auto)]
+
+mod controller_file;
+mod evidence;
+mod file_bytes;
+mod plant_file;
+mod section_files;
+mod state_file;
+mod texts;
+
+pub use evidence::{Evidence, read_certificate, read_evidence};
+pub use section_files::{SectionFiles, push_item};
+pub use texts::{Said, Texts, read_texts};

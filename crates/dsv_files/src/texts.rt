@@ -1,0 +1,138 @@
+// What the files of a job have.
+ghost use Rattle.std.specs.Prelude.{◌≡◌, ◌≤◌, IfOk, IfErr};
+ghost use Rattle.dsv_certfile.specs.Lawful.{IsWords};
+ghost use Rattle.dsv_certfile.specs.Words.{words_for};
+ghost use Rattle.dsv_command.specs.Table.{cascade_loop, plant_loop};
+ghost use Rattle.dsv_command.specs.Views.{files_view, names_view};
+ghost use Rattle.dsv_base.specs.Seen.{AreKept};
+ghost use Rattle.dsv_files.specs.JobTexts.{AreUnread, HaveTexts, IsSaidOf};
+ghost use Rattle.dsv_files.specs.Views.{texts_view};
+
+use crate::controller_file::read_controller;
+use crate::plant_file::read_plant_file;
+use crate::section_files::{SectionFiles, read_sections};
+use crate::state_file::read_state_file;
+use dsv_base::Files;
+use dsv_certfile::CertWords;
+use dsv_command::{JobFiles, SectionNames};
+use dsv_reader::{Controller, Plant};
+use dsv_report::{Stop, WhichFile};
+use dsv_state_file::StateFile;
+use std::alloc::Global;
+
+/// What the files of a job have the texts of.
+#[derive(Drop)]
+pub enum Texts {
+    Controller(Controller),
+    Cascade(SectionFiles),
+    States(StateFile),
+    Loop {
+        controller: Controller,
+        plant: Plant,
+    },
+    CascadeLoop {
+        sections: SectionFiles,
+        plant: Plant,
+    },
+}
+
+/// What is said of texts beside an answer.
+#[derive(Clone, Copy)]
+pub struct Said {
+    /// What certificates say of the format of the words.
+    pub words: CertWords,
+    /// How many states a state-space controller has; 0 of all else.
+    pub states: u32,
+}
+
+/// What is said of a controller.
+fn said_of(controller: &Controller) -> Said
+    ensures words { result.words
+        ≡ words_for controller.now.int_bits controller.now.frac_bits }
+    ensures lawful { IsWords result.words }
+    ensures states { result.states ≡ 0 }
+{
+    Said {
+        words: CertWords::of_format(controller.int_bits(), controller.frac_bits()),
+        states: 0,
+    }
+}
+
+impl Texts {
+    /// What is said of them.
+    pub fn said(&self) -> Said
+        ensures said { IsSaidOf (texts_view self.now) result.states result.words }
+        ensures lawful { IsWords result.words }
+    {
+        match self {
+            Texts::Controller(controller) | Texts::Loop { controller, .. } => said_of(controller),
+            Texts::States(file) => Said {
+                words: CertWords::of_format(file.int_bits(), file.frac_bits()),
+                states: file.states(),
+            },
+            Texts::Cascade(_) | Texts::CascadeLoop { .. } => Said {
+                words: CertWords::Unsaid,
+                states: 0,
+            },
+        }
+    }
+}
+
+/// The texts of the files of a loop: the controller's file is read first.
+fn read_loop<F: Files>(alloc: Global, file: &str, plant: &str, files: &mut F) -> Result<Texts, Stop>
+    ensures texts { IfOk result (λ came. HaveTexts (F.seen files.old)
+        (plant_loop file.now plant.now) (texts_view came)) }
+    ensures unread { IfErr result
+        (AreUnread (F.seen files.old) (F.seen files.new) (plant_loop file.now plant.now)) }
+    ensures kept { AreKept (F.seen files.old) (F.seen files.new) }
+    ensures came { IfOk result (λ t. (F.seen files.old).came ≤ (F.seen files.new).came) }
+{
+    let controller = read_controller(alloc, file, WhichFile::Controller, files)?;
+    let plant = read_plant_file(alloc, plant, files)?;
+    Ok(Texts::Loop { controller, plant })
+}
+
+/// The texts of the files of a cascade's loop: the sections' files are read first.
+fn read_cascade_loop<F: Files>(
+    alloc: Global,
+    file: &str,
+    later: &SectionNames,
+    plant: &str,
+    files: &mut F,
+) -> Result<Texts, Stop>
+    ensures texts { IfOk result (λ came. HaveTexts (F.seen files.old)
+        (cascade_loop file.now (names_view later.now.items) plant.now) (texts_view came)) }
+    ensures unread { IfErr result (AreUnread (F.seen files.old) (F.seen files.new)
+        (cascade_loop file.now (names_view later.now.items) plant.now)) }
+    ensures kept { AreKept (F.seen files.old) (F.seen files.new) }
+    ensures came { IfOk result (λ t. (F.seen files.old).came ≤ (F.seen files.new).came) }
+{
+    let sections = read_sections(alloc, file, later, files)?;
+    let plant = read_plant_file(alloc, plant, files)?;
+    Ok(Texts::CascadeLoop { sections, plant })
+}
+
+/// The texts of the files that a job names, which are read in their order.
+pub fn read_texts<F: Files>(alloc: Global, named: &JobFiles, files: &mut F) -> Result<Texts, Stop>
+    ensures texts { IfOk result (λ came. HaveTexts (F.seen files.old) (files_view named.now)
+        (texts_view came)) }
+    ensures unread { IfErr result
+        (AreUnread (F.seen files.old) (F.seen files.new) (files_view named.now)) }
+    ensures kept { AreKept (F.seen files.old) (F.seen files.new) }
+    ensures came { IfOk result (λ t. (F.seen files.old).came ≤ (F.seen files.new).came) }
+{
+    match named {
+        JobFiles::Controller(file) => {
+            let controller = read_controller(alloc, file, WhichFile::Controller, files)?;
+            Ok(Texts::Controller(controller))
+        }
+        JobFiles::Cascade { file, later } => {
+            Ok(Texts::Cascade(read_sections(alloc, file, later, files)?))
+        }
+        JobFiles::States(file) => Ok(Texts::States(read_state_file(alloc, file, files)?)),
+        JobFiles::Loop { file, plant } => read_loop(alloc, file, plant, files),
+        JobFiles::CascadeLoop { file, later, plant } => {
+            read_cascade_loop(alloc, file, later, plant, files)
+        }
+    }
+}
