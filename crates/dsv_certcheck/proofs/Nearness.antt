@@ -54,3 +54,6 @@ none_without q (Err why) = tt
 pub near_without : (q : QuantisedView) (cert : Certificate) (found : Checked) → OnOk found (StaysAsOffered q cert None) → IfOk (without_error found) (StaysAsOffered q cert)
 near_without q cert (Ok x) h = h
 near_without q cert (Err why) h = tt
+
+-- these together, for the functions that check what has no offer
+pub ruleset without_errors = (found_without, shown_without, none_without, near_without)

@@ -36,7 +36,7 @@ IsFoundFor c plant cert (Err refusal.NoMemory) = Unit {0}
 IsFoundFor c plant cert (Err (refusal.Quant why)) = BecomesFor c (job_of cert) (Err why)
 IsFoundFor c plant cert found = IsFoundOf c plant cert found
 
--- what is found after the format: its refusal, or what is found where it passes
+-- what is found after the format: its refusal, or if it passes, what is found of the words
 abbrev pub IsFoundAfter : Checked → ControllerView → Option PlantView → Certificate → Checked
     → Type 0
 IsFoundAfter (Ok x) c plant cert found = IsFoundFor c plant cert found

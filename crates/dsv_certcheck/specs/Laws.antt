@@ -21,7 +21,7 @@ AreOfFormats =
     → IsChecked c plant cert (refused line fault.Format)
     ↔ (format_check c (job_of cert).words ≡ refused line fault.Format)
 
--- where no plant stands beside the controller, no loop is refused
+-- if no plant stands beside the controller, no loop is refused
 abbrev pub NoLoopIsRefused : Type 0
 NoLoopIsRefused = (c : ControllerView) (cert : Certificate) (why : LoopRefusal)
     → IsChecked c None cert (Err (refusal.Loop why)) → ⊥

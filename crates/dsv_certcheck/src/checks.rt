@@ -267,7 +267,7 @@ fn without_error(found: Result<(), CheckRefusal>) -> Result<Option<ShownError>, 
 }
 
 /// Checks a certificate for a quantised controller.
-#[tactic(auto, using(crate::proofs::Nearness::found_without, crate::proofs::Nearness::shown_without, crate::proofs::Nearness::none_without))]
+#[tactic(auto, using(crate::proofs::Nearness::without_errors))]
 fn check_words(
     alloc: Global,
     quantised: &Quantised,
@@ -302,7 +302,7 @@ fn check_words(
 
 /// Checks a certificate for words that run with this sample time, alone or in a loop with the
 /// plant.
-#[tactic(auto, using(crate::proofs::Nearness::found_without, crate::proofs::Nearness::shown_without, crate::proofs::Nearness::near_without))]
+#[tactic(auto, using(crate::proofs::Nearness::without_errors))]
 fn check_beside(
     alloc: Global,
     quantised: &Quantised,

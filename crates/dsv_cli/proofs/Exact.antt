@@ -51,7 +51,7 @@ use Rattle.dsv_files.specs.Files.{IsLost, FileKind, a_controller, a_section, a_s
 use Rattle.dsv_cli.specs.JobRows.{JobWords, of_words, of_series, of_state_words, BecomeJobWords, IsWordless, AreWordless, LacksEvidence, LacksWords, IsTaskDone, IsDoneBy, IsOfCheck, IsCheckedBy, IsAnswered}
 use Rattle.dsv_files.specs.JobTexts.{JobTexts, of_one, of_sections, of_state_file, with_plant, sections_with_plant, HaveTexts, AreUnread, Evidence, none, certificate, ellipsoid, HasEvidence, IsEvidenceUnread}
 use Rattle.dsv_cli.proofs.ExactTasks.{stopped_by, IsThis, task_exact, check_exact}
-use Rattle.dsv_files.proofs.Pairwise.{pair_at, pair_before, at_place, before_place}
+use Rattle.dsv_files.proofs.Pairwise.{some_once, pair_at, pair_before, at_place, before_place}
 
 -- ---- what the bytes of a file come to
 -- they are over a limit, or their reading refuses them, or they are read
@@ -209,12 +209,9 @@ file_one kind old new then_old then_new name v w same h k =
     one_if_stopped (limit_of (which_of kind)) (reading_of kind) (too_long_of (which_of kind)) (refusal_of kind) same.0 v w (file_stopped kind old new name same.0 v same.1 h) (file_stopped kind then_old then_new name same.0 w same.2 k)
 
 -- ---- files of later sections
-name_once : {A : Type 0} → (a b : A) → Some a ≡ Some b → a ≡ b
-name_once a b e = cc
-
 same_at : (old then_old : FilesSeen) (names : List (List ℕ)) (i : ℕ) (name : List ℕ) → slice_get names i ≡ Some name → AreTheSame old names then_old names → HoldsTheSame old name then_old name
 same_at old then_old [] i name e same = absurd (cc)
-same_at old then_old (n ∷ names) zero name e same = subst (λ m. HoldsTheSame old m then_old m) (name_once n name e) same.0
+same_at old then_old (n ∷ names) zero name e same = subst (λ m. HoldsTheSame old m then_old m) (some_once n name e) same.0
 same_at old then_old (n ∷ names) (suc i) name e same = same_at old then_old names i name e same.1
 
 sections_once : (old then_old : FilesSeen) (names : List (List ℕ)) (cs ds : List ControllerView) → AreTheSame old names then_old names → AreControllers old names cs → AreControllers then_old names ds → cs ≡ ds
@@ -249,7 +246,7 @@ stops_one : (old new then_old then_new : FilesSeen) (names : List (List ℕ)) (v
     → slice_get names j ≡ Some n → AreControllers then_old (take j names) ds → IsUnread (a_section (suc j)) then_old then_new n w → (i ≡ j) ⊎ ((i < j) ⊎ (j < i)) → AreOne v w
 stops_one old new then_old then_new names v w i j m n bs ds same at before h there then_before k (inl e) =
     let there_i : slice_get names i ≡ Some n = rw e there in
-    let one : m ≡ n = name_once m n (sym at ∙ there_i) in
+    let one : m ≡ n = some_once m n (sym at ∙ there_i) in
     file_one (a_section (suc i)) old new then_old then_new n v w (same_at old then_old names i n there_i same) (subst (λ x. IsUnread (a_section (suc i)) old new x v) one h) (subst (λ x. IsUnread (a_section (suc x)) then_old then_new n w) (sym e) k)
 stops_one old new then_old then_new names v w i j m n bs ds same at before h there then_before k (inr (inl l)) =
     let p = pair_before (IsFileOf a_controller then_old) names ds i j m at l then_before in
@@ -402,7 +399,7 @@ one_misfit first q (misfit.Mixed n) (misfit.Mixed m) e h k = ap misfit.Mixed e
 
 one_by_place : (first : QuantisedView) (sections : List QuantisedView) (v w : CascadeRefusal) → IsRefused first sections v → IsRefused first sections w → (place_of v ≡ place_of w) ⊎ ((place_of v < place_of w) ⊎ (place_of w < place_of v)) → v ≡ w
 one_by_place first sections v w h k (inl e) =
-    let one : h.section ≡ k.section = name_once h.section k.section (sym h.here ∙ ap (slice_get sections) e ∙ k.here) in
+    let one : h.section ≡ k.section = some_once h.section k.section (sym h.here ∙ ap (slice_get sections) e ∙ k.here) in
     one_misfit first k.section v w e (subst (λ x. IsMisfit first x v) one h.misfit) k.misfit
 one_by_place first sections v w h k (inr (inl l)) = absurd (no_misfit first h.section v (before_place (Fits first) sections (place_of v) (place_of w) h.section h.here l k.before) h.misfit)
 one_by_place first sections v w h k (inr (inr l)) = absurd (no_misfit first k.section w (before_place (Fits first) sections (place_of w) (place_of v) k.section k.here l h.before) k.misfit)
@@ -434,7 +431,7 @@ all_or_later design cs qs section r h (i, c, e, at, before, words, k) =
 quants_by : (design : Design) (cs : List ControllerView) (i j : ℕ) (c d : ControllerView) (r s : QuantRefusal) (bs ds : List QuantisedView) → slice_get cs i ≡ Some c → BecomeWords design (take i cs) bs → BecomesWords c design (Err r)
     → slice_get cs j ≡ Some d → BecomeWords design (take j cs) ds → BecomesWords d design (Err s) → (i ≡ j) ⊎ ((i < j) ⊎ (j < i)) → stop.QuantRefused (file.Section (suc i)) r ≡ stop.QuantRefused (file.Section (suc j)) s
 quants_by design cs i j c d r s bs ds at before h there then_before k (inl e) =
-    let one : c ≡ d = name_once c d (sym at ∙ ap (slice_get cs) e ∙ there) in
+    let one : c ≡ d = some_once c d (sym at ∙ ap (slice_get cs) e ∙ there) in
     ap (λ x. stop.QuantRefused (file.Section (suc x)) r) e ∙ ap (stop.QuantRefused (file.Section (suc j))) (one_quant design d r s (subst (λ x. BecomesWords x design (Err r)) one h) k)
 quants_by design cs i j c d r s bs ds at before h there then_before k (inr (inl l)) =
     let p = pair_before (λ x q. BecomesWords x design (Ok q)) cs ds i j c at l then_before in

@@ -23,3 +23,4 @@ pub mod Unasked
 pub mod Undecided
 pub mod OneForms
 pub mod OneSections
+pub mod OneTested

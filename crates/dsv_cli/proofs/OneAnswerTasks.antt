@@ -63,6 +63,7 @@ use Rattle.dsv_gain.specs.Subjects.{outlook_of}
 use Rattle.dsv_realise.specs.Runs.{IsTrace}
 use Rattle.dsv_realise.specs.Controllers.{of_controller}
 use Rattle.dsv_cli.proofs.OneForms.{one_fall, offer_falls, offer_kept_away, kinds_apart, one_closed, value_of}
+use Rattle.dsv_cli.proofs.OneTested.{one_poly, poly_or_none, poly_or_wide, none_or_wide, one_refusal}
 use Rattle.dsv_cli.proofs.OneSections.{one_judgement, one_tabling}
 use Rattle.dsv_files.proofs.Pairwise.{before_place}
 
@@ -92,21 +93,6 @@ Leads outcome (Ok (answer.KeptAway p o f v)) = (outcome ≡ Ok (tested.Poly p)) 
 Leads outcome (Ok answer.NoZeros) = outcome ≡ Ok tested.NoZeros
 Leads outcome (Ok (answer.Wide index)) = outcome ≡ Err (record { index = index })
 Leads outcome other = ⊥
-
-one_poly : (r : Result Tested PolyWide) (p q : List ℤ) → r ≡ Ok (tested.Poly p) → r ≡ Ok (tested.Poly q) → p ≡ q
-one_poly r p q h k = cc
-
-poly_or_none : (r : Result Tested PolyWide) (p : List ℤ) → r ≡ Ok (tested.Poly p) → r ≡ Ok tested.NoZeros → ⊥
-poly_or_none r p h k = cc
-
-poly_or_wide : (r : Result Tested PolyWide) (p : List ℤ) (w : PolyWide) → r ≡ Ok (tested.Poly p) → r ≡ Err w → ⊥
-poly_or_wide r p w h k = cc
-
-none_or_wide : (r : Result Tested PolyWide) (w : PolyWide) → r ≡ Ok tested.NoZeros → r ≡ Err w → ⊥
-none_or_wide r w h k = cc
-
-one_refusal : (r : Result Tested PolyWide) (v w : PolyWide) → r ≡ Err v → r ≡ Err w → v ≡ w
-one_refusal r v w h k = cc
 
 one_wide : (r : Result Tested PolyWide) (i j : ℕ) → r ≡ Err (record { index = i }) → r ≡ Err (record { index = j }) → SameAnswer (Ok (answer.Wide i)) (Ok (answer.Wide j))
 one_wide r i j h k = ap (λ (w : PolyWide). Ok (answer.Wide w.index)) (one_refusal r (record { index = i }) (record { index = j }) h k)

@@ -1,5 +1,5 @@
 -- What is found of a cascade's sections is one.
-use Rattle.std.proofs.Common.{◌≡◌, ◌∙◌, ◌⊎◌, inl, inr, sym, ap, subst, refl, ℕ, zero, suc, ◌<◌, ◌≤◌, false, List, [], ◌∷◌, Some, None, Ok, Err, take, arith}
+use Rattle.std.proofs.Common.{◌≡◌, ◌∙◌, ◌⊎◌, inl, inr, sym, ap, subst, refl, ℕ, zero, suc, ◌<◌, ◌≤◌, false, List, [], ◌∷◌, Some, None, Err, take, ap₂, arith}
 use Rattle.std.specs.Prelude.{slice_get, Result}
 use Rattle.std.specs.Int.RustNames.{unsigned_abs}
 use Rattle.std.proofs.Math.IntN.{ℤ}
@@ -15,7 +15,6 @@ use Rattle.dsv_delta.specs.declared.refusal.PolyWide.{PolyWide}
 use Rattle.dsv_tested.specs.Tested.{tested_of}
 use Rattle.dsv_tested.specs.declared.side.Side.TheVariants as side
 use Rattle.dsv_tested.specs.declared.side.Tested.{Tested}
-use Rattle.dsv_tested.specs.declared.side.Tested.TheVariants as tested
 use Rattle.dsv_cascade.specs.Stability.{IsStableSection, AreStable, IsStableAlone, IsFirstUnstable, IsFirstOver, HasFault, AreJudged}
 use Rattle.dsv_cascade.specs.declared.stability.SectionOffer.{SectionOffer}
 use Rattle.dsv_cascade.specs.declared.stability.CascadeForms.{CascadeForms}
@@ -32,22 +31,13 @@ use Rattle.dsv_poly_table.specs.Sections.{IsOfPoles, IsInsideSection, AreInside,
 use Rattle.dsv_poly_table.specs.declared.sections.SectionTables.{SectionTables}
 use Rattle.dsv_poly_table.specs.declared.sections.SectionTables.TheVariants as tables
 use Rattle.dsv_cli.specs.OneAnswer.{SameOffer, SameFault, SameForms}
+use Rattle.dsv_cli.proofs.OneTested.{one_poly, poly_or_wide, one_refusal}
 use Rattle.dsv_cli.proofs.OneForms.{one_fall, offer_falls, offer_kept_away, value_of}
-use Rattle.dsv_files.proofs.Pairwise.{before_place}
+use Rattle.dsv_files.proofs.Pairwise.{some_once, before_place}
 
 -- ---- one polynomial, one form
-one_poly : (came : Result Tested PolyWide) (p q : List ℤ) → came ≡ Ok (tested.Poly p) → came ≡ Ok (tested.Poly q) → p ≡ q
-one_poly came p q e f = cc
-
-abbrev wide_index : Result Tested PolyWide → ℕ
-wide_index (Ok t) = 0
-wide_index (Err w) = w.index
-
 one_wide : (came : Result Tested PolyWide) (i j : ℕ) → came ≡ Err (record { index = i }) → came ≡ Err (record { index = j }) → i ≡ j
-one_wide came i j e f = ap wide_index (sym e ∙ f)
-
-poly_or_wide : (came : Result Tested PolyWide) (p : List ℤ) (i : ℕ) → came ≡ Ok (tested.Poly p) → came ≡ Err (record { index = i }) → ⊥
-poly_or_wide came p i e f = cc
+one_wide came i j e f = ap (λ (w : PolyWide). w.index) (one_refusal came (record { index = i }) (record { index = j }) e f)
 
 one_offer : (p q : List ℤ) (a b : FormOffer) → p ≡ q → closed_form_of p ≡ Some a → closed_form_of q ≡ Some b → a ≡ b
 one_offer p q a b e h k = let j = rw (← e) at k in cc
@@ -59,7 +49,7 @@ form_or_none : (p q : List ℤ) (a : FormOffer) → p ≡ q → closed_form_of p
 form_or_none p q a e h k = let j = rw (← e) at k in cc
 
 one_at : {A : Type 0} (xs : List A) (i j : ℕ) (a b : A) → slice_get xs i ≡ Some a → slice_get xs j ≡ Some b → i ≡ j → a ≡ b
-one_at xs i j a b h k e = let l = rw (← e) at k in cc
+one_at xs i j a b h k e = some_once a b (sym h ∙ ap (slice_get xs) e ∙ k)
 
 -- ---- stable sections
 one_stable : (q : QuantisedView) (s t : SectionOffer) → IsStableSection q s → IsStableSection q t → SameOffer s t
@@ -85,19 +75,16 @@ stable_at (p ∷ qs) (s ∷ ss) (suc i) q e h = stable_at qs ss i q e h.1
 -- ---- faults
 stable_or_not : (q : QuantisedView) (why : SectionFault) → IsStableAlone q → HasFault q why → ⊥
 stable_or_not q (fault.KeptAway poly offer fall value) (s, h) (has, closed, away) = falls_or_kept s.poly poly s.offer offer (one_poly (tested_of q side.Denominator) s.poly poly h.poly_of has) h.closed closed
-stable_or_not q (fault.Wide index) (s, h) k = poly_or_wide (tested_of q side.Denominator) s.poly index h.poly_of k
+stable_or_not q (fault.Wide index) (s, h) k = poly_or_wide (tested_of q side.Denominator) s.poly (record { index = index }) h.poly_of k
 stable_or_not q (fault.NoClosedForm index) (s, h) (poly, has, none, over) =
     form_or_none s.poly poly (offered.Falls s.offer) (one_poly (tested_of q side.Denominator) s.poly poly h.poly_of has) h.closed none
-
-small_or_over : (n limit : ℕ) → n ≤ limit → limit < n → ⊥
-small_or_over n limit h k = omega (arith, h, k)
 
 one_over : (cs : List ℤ) (i j : ℕ) → IsFirstOver cs i → IsFirstOver cs j → (i ≡ j) ⊎ ((i < j) ⊎ (j < i)) → i ≡ j
 one_over cs i j h k (inl e) = e
 one_over cs i j (c, at, over, before) (d, there, more, earlier) (inr (inl l)) =
-    absurd (small_or_over (unsigned_abs c) second_limit (before_place (λ z. unsigned_abs z ≤ second_limit) cs i j c at l earlier) over)
+    absurd (let small = before_place (λ z. unsigned_abs z ≤ second_limit) cs i j c at l earlier in omega (arith, small, over))
 one_over cs i j (c, at, over, before) (d, there, more, earlier) (inr (inr l)) =
-    absurd (small_or_over (unsigned_abs d) second_limit (before_place (λ z. unsigned_abs z ≤ second_limit) cs j i d there l before) more)
+    absurd (let small = before_place (λ z. unsigned_abs z ≤ second_limit) cs j i d there l before in omega (arith, small, more))
 
 one_fault : (q : QuantisedView) (a b : SectionFault) → HasFault q a → HasFault q b → SameFault a b
 one_fault q (fault.KeptAway p o f v) (fault.KeptAway r u g w) (has, closed, h) (have, same, k) =
@@ -108,16 +95,16 @@ one_fault q (fault.KeptAway p o f v) (fault.KeptAway r u g w) (has, closed, h) (
       one_fall p r o.form u.form f g e (ap (λ (x : KeptAway). x.form) offers) h.fall_form k.fall_form,
       h.value_at ∙ ap (λ poly. value_of poly o) e ∙ ap (value_of r) offers ∙ sym k.value_at,
     )
-one_fault q (fault.KeptAway p o f v) (fault.Wide j) (has, closed, h) k = absurd (poly_or_wide (tested_of q side.Denominator) p j has k)
+one_fault q (fault.KeptAway p o f v) (fault.Wide j) (has, closed, h) k = absurd (poly_or_wide (tested_of q side.Denominator) p (record { index = j }) has k)
 one_fault q (fault.KeptAway p o f v) (fault.NoClosedForm j) (has, closed, h) (r, have, none, over) = absurd (form_or_none p r (offered.KeptAway o) (one_poly (tested_of q side.Denominator) p r has have) closed none)
 one_fault q (fault.Wide i) (fault.Wide j) h k = ap fault.Wide (one_wide (tested_of q side.Denominator) i j h k)
-one_fault q (fault.Wide i) (fault.KeptAway r u g w) h (have, same, k) = absurd (poly_or_wide (tested_of q side.Denominator) r i have h)
-one_fault q (fault.Wide i) (fault.NoClosedForm j) h (r, have, none, over) = absurd (poly_or_wide (tested_of q side.Denominator) r i have h)
+one_fault q (fault.Wide i) (fault.KeptAway r u g w) h (have, same, k) = absurd (poly_or_wide (tested_of q side.Denominator) r (record { index = i }) have h)
+one_fault q (fault.Wide i) (fault.NoClosedForm j) h (r, have, none, over) = absurd (poly_or_wide (tested_of q side.Denominator) r (record { index = i }) have h)
 one_fault q (fault.NoClosedForm i) (fault.NoClosedForm j) (p, has, none, over) (r, have, lacks, more) =
     let e = one_poly (tested_of q side.Denominator) p r has have in
     ap fault.NoClosedForm (one_over r i j (subst (λ cs. IsFirstOver cs i) e over) more (cases_order i j))
 one_fault q (fault.NoClosedForm i) (fault.KeptAway r u g w) (p, has, none, over) (have, same, k) = absurd (form_or_none r p (offered.KeptAway u) (one_poly (tested_of q side.Denominator) r p have has) same none)
-one_fault q (fault.NoClosedForm i) (fault.Wide j) (p, has, none, over) k = absurd (poly_or_wide (tested_of q side.Denominator) p j has k)
+one_fault q (fault.NoClosedForm i) (fault.Wide j) (p, has, none, over) k = absurd (poly_or_wide (tested_of q side.Denominator) p (record { index = j }) has k)
 
 -- ---- all sections
 first_fault : (qs : List QuantisedView) (i j : ℕ) (p q : QuantisedView) (a b : SectionFault) → IsFirstUnstable qs i p → HasFault p a → IsFirstUnstable qs j q → HasFault q b → (i ≡ j) ⊎ ((i < j) ⊎ (j < i))
@@ -138,16 +125,13 @@ one_of_poles q f g h k =
     let e = one_poly (tested_of q side.Denominator) f.poly g.poly h.poles k.poles in
     one_finding g.poly f g (subst (λ cs. IsFinding cs f) e h.finding) k.finding
 
-two_more : {A : Type 0} (x y : A) (xs ys : List A) → x ≡ y → xs ≡ ys → x ∷ xs ≡ y ∷ ys
-two_more x y xs ys e f = rw (e, f) refl
-
 all_inside : (qs : List QuantisedView) (fs gs : List TableFinding) → AreInside qs fs → AreInside qs gs → fs ≡ gs
 all_inside [] [] [] h k = refl
 all_inside [] [] (g ∷ gs) h k = absurd k
 all_inside [] (f ∷ fs) gs h k = absurd h
 all_inside (q ∷ qs) [] gs h k = absurd h
 all_inside (q ∷ qs) (f ∷ fs) [] h k = absurd k
-all_inside (q ∷ qs) (f ∷ fs) (g ∷ gs) h k = two_more f g fs gs (one_of_poles q f g h.0.0 k.0.0) (all_inside qs fs gs h.1 k.1)
+all_inside (q ∷ qs) (f ∷ fs) (g ∷ gs) h k = ap₂ (λ x xs. x ∷ xs) (one_of_poles q f g h.0.0 k.0.0) (all_inside qs fs gs h.1 k.1)
 
 -- the section's table is inside
 abbrev IsInsideAlone : QuantisedView → Type 0
@@ -179,22 +163,19 @@ inside_or_not : (q : QuantisedView) (found : SectionTables) → IsInsideAlone q 
 inside_or_not q (tables.Inside findings) h k = k
 inside_or_not q (tables.NotInside section found) h k =
     inside_verdict h.0.verdict h.1.1 (ap (λ (x : TableFinding). is_inside x.verdict) (one_of_poles q h.0 found h.1.0 k.0) ∙ k.1)
-inside_or_not q (tables.Wide section index) h k = poly_or_wide (tested_of q side.Denominator) h.0.poly index h.1.0.poles k
+inside_or_not q (tables.Wide section index) h k = poly_or_wide (tested_of q side.Denominator) h.0.poly (record { index = index }) h.1.0.poles k
 
-both_same : {A B C : Type 0} (f : A → B → C) (a x : A) (b y : B) → a ≡ x → b ≡ y → f a b ≡ f x y
-both_same f a x b y e g = rw (e, g) refl
-
--- a finding of its section
+-- the section that it is about
 abbrev section_in : SectionTables → ℕ
 section_in (tables.Inside findings) = 0
 section_in (tables.NotInside section found) = section
 section_in (tables.Wide section index) = section
 
 one_other : (q : QuantisedView) (f g : SectionTables) → IsOther q f → IsOther q g → section_in f ≡ section_in g → f ≡ g
-one_other q (tables.NotInside i f) (tables.NotInside j g) h k e = both_same tables.NotInside i j f g e (one_of_poles q f g h.0 k.0)
-one_other q (tables.NotInside i f) (tables.Wide j w) h k e = absurd (poly_or_wide (tested_of q side.Denominator) f.poly w h.0.poles k)
-one_other q (tables.Wide i v) (tables.NotInside j g) h k e = absurd (poly_or_wide (tested_of q side.Denominator) g.poly v k.0.poles h)
-one_other q (tables.Wide i v) (tables.Wide j w) h k e = both_same tables.Wide i j v w e (one_wide (tested_of q side.Denominator) v w h k)
+one_other q (tables.NotInside i f) (tables.NotInside j g) h k e = ap₂ tables.NotInside e (one_of_poles q f g h.0 k.0)
+one_other q (tables.NotInside i f) (tables.Wide j w) h k e = absurd (poly_or_wide (tested_of q side.Denominator) f.poly (record { index = w }) h.0.poles k)
+one_other q (tables.Wide i v) (tables.NotInside j g) h k e = absurd (poly_or_wide (tested_of q side.Denominator) g.poly (record { index = v }) k.0.poles h)
+one_other q (tables.Wide i v) (tables.Wide j w) h k e = ap₂ tables.Wide e (one_wide (tested_of q side.Denominator) v w h k)
 one_other q (tables.Inside f) g h k e = absurd h
 one_other q f (tables.Inside g) h k e = absurd k
 

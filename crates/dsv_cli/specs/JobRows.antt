@@ -181,7 +181,7 @@ ChecksTo c plant written (Err why) =
     (r : CheckRefusal) × IsChecked c plant written (Err r) × (why ≡ stop_of_check r)
 ChecksTo c plant written found = ⊥
 
--- of what files have
+-- the same for what the files have
 abbrev pub IsOfCheck : JobTexts → Certificate → Outcome → Type 0
 IsOfCheck (of_one c) written found = ChecksTo c None written found
 IsOfCheck (with_plant c p) written found = ChecksTo c (Some p) written found

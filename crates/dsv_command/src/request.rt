@@ -1,6 +1,6 @@
 // What the arguments ask for.
-ghost use Rattle.std.specs.Prelude.{◌≡◌, map, string_bytes, IfOk, IfSome};
-ghost use Rattle.std.specs.Result.{result_map_both};
+ghost use Rattle.std.specs.Prelude.{◌≡◌, map, string_bytes, IfOk, IfSome, None};
+ghost use Rattle.std.specs.Result.{result_map_both, result_ok};
 ghost use Rattle.dsv_command.specs.Finding.{asked_of};
 ghost use Rattle.dsv_command.specs.Requests.{IsInTable, reason_of, request_of};
 ghost use Rattle.dsv_command.specs.Views.{asked_in, explained_in, reason_view, request_view};
@@ -44,8 +44,22 @@ pub fn read<'a>(
     }
 }
 
+/// What arguments are that don't begin with `--why`.
+#[tactic(auto, using(crate::proofs::RequestLaws::asked_in_table))]
+fn asked_line<'a>(alloc: Global, arguments: &'a [String]) -> Result<Line<'a>, NoMemory>
+    ensures request { IfOk result (λ line. asked_in line
+        ≡ result_ok (asked_of (map string_bytes arguments.entry.now))) }
+    ensures in_table { IfOk result (λ line. IfSome (asked_in line) IsInTable) }
+    ensures reason { IfOk result (λ line. explained_in line ≡ None) }
+{
+    match read(alloc, arguments)? {
+        Ok(request) => Ok(Line::Asks(request)),
+        Err(_) => Ok(Line::AsksNothing),
+    }
+}
+
 /// What the arguments after the program's name are.
-#[tactic(auto, unfolding(crate::specs::Requests::request_of, crate::specs::Requests::reason_of), using(crate::proofs::RequestLaws::asked_in_table))]
+#[tactic(auto, unfolding(crate::specs::Requests::request_of, crate::specs::Requests::reason_of))]
 pub fn read_line<'a>(alloc: Global, arguments: &'a [String]) -> Result<Line<'a>, NoMemory>
     ensures request { IfOk result (λ line. asked_in line
         ≡ request_of (map string_bytes arguments.entry.now)) }
@@ -62,8 +76,6 @@ pub fn read_line<'a>(alloc: Global, arguments: &'a [String]) -> Result<Line<'a>,
             Err(reason) => Ok(Line::Explains(reason)),
         };
     }
-    match read(alloc, arguments)? {
-        Ok(request) => Ok(Line::Asks(request)),
-        Err(_) => Ok(Line::AsksNothing),
-    }
+    let line = asked_line(alloc, arguments)?;
+    Ok(line)
 }

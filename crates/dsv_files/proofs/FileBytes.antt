@@ -1,4 +1,4 @@
--- What keeps a file from being of its kind, and what it has, where others were read before it.
+-- What keeps a file from being of its kind, and what it has, also after others were read.
 use Rattle.std.proofs.Common.{◌≡◌, refl, subst, arith, inl, inr, ℕ, ◌+◌, ◌<◌, ◌≤◌, List, length}
 use Rattle.std.specs.Prelude.{IfSome}
 use Rattle.dsv_base.specs.Counts.{Rose}

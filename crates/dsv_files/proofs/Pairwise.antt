@@ -32,7 +32,7 @@ pairs_weaker R S [] (y ∷ ys) f h = absurd h
 pairs_weaker R S (x ∷ xs) [] f h = absurd h
 pairs_weaker R S (x ∷ xs) (y ∷ ys) f h = (f x y h.0, pairs_weaker R S xs ys f h.1)
 
-some_once : {A : Type 0} → (a x : A) → Some a ≡ Some x → a ≡ x
+pub some_once : {A : Type 0} → (a x : A) → Some a ≡ Some x → a ≡ x
 some_once a x e = cc
 
 -- what stands so to the one at a place

@@ -26,7 +26,7 @@ use Rattle.dsv_report.specs.Stops.{Outcome}
 -- ---- kinds
 pub data FileKind : Type 0 where
   a_controller : FileKind
-  -- of a later section of a cascade, by its number
+  -- a later section of a cascade, by its number
   a_section : ℕ → FileKind
   a_state_controller : FileKind
   a_plant : FileKind
@@ -56,7 +56,7 @@ abbrev pub limit_of : WhichFile → ℕ
 limit_of file.Certificate = longest_certificate
 limit_of which = longest_file
 
--- why there is no answer where it has more
+-- why there is no answer if it has more
 abbrev pub too_long_of : WhichFile → Stop
 too_long_of file.Certificate = stop.CertificateRefused 0 fault.TooLong
 too_long_of which = stop.FileTooLong which
@@ -112,8 +112,8 @@ abbrev pub IsFileOf : (kind : FileKind) → FilesSeen → List ℕ → Content k
 IsFileOf kind old name x = CameOf (old.held name)
     (λ bytes. (length bytes ≤ limit_of (which_of kind)) × IsText kind bytes x)
 
--- What keeps the file of this name from being of the kind, where the files were `old` and are
--- `new`: its bytes didn't come, or have a fault.
+-- What keeps the file of this name from being of the kind: its bytes didn't come, or have a fault.
+-- The files were `old` and are `new`.
 abbrev pub IsUnread : FileKind → FilesSeen → FilesSeen → List ℕ → Stop → Type 0
 IsUnread kind old new name why = NoneCame old new name (which_of kind) why
     ⊎ CameOf (old.held name)

@@ -1,14 +1,8 @@
-use Rattle.std.proofs.Common.{◌≡◌, rules, inl}
+use Rattle.std.proofs.Common.{◌≡◌, rules}
 use Rattle.std.specs.Prelude.{Err}
 use Rattle.dsv_report.specs.Stops.{stop_of_text}
 use Rattle.dsv_files.proofs.FileBytes.{certificate_faulty}
 use Rattle.dsv_files.proofs.evidence.read_certificate.Goals as goal
-
-pub returns-in_err-bytes-clause-unread : goal.returns-in_err-bytes-clause-unread
-returns-in_err-bytes-clause-unread g c =
-    let why = c.in_err-bytes.field-0.0 in
-    let is : c.from_residual.result ≡ Err why = search rules in
-    rw is (inl c.in_err-bytes.ensures.unread)
 
 pub returns-in_err-read-clause-unread : goal.returns-in_err-read-clause-unread
 returns-in_err-read-clause-unread g c =

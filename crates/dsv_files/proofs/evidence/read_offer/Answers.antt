@@ -1,13 +1,7 @@
-use Rattle.std.proofs.Common.{◌≡◌, rules, sym, inl, inr}
+use Rattle.std.proofs.Common.{◌≡◌, rules, sym, inr}
 use Rattle.std.specs.Prelude.{Err}
 use Rattle.dsv_report.specs.declared.stop.Stop.TheVariants as stop
 use Rattle.dsv_files.proofs.evidence.read_offer.Goals as goal
-
-pub returns-in_err-bytes-clause-unread : goal.returns-in_err-bytes-clause-unread
-returns-in_err-bytes-clause-unread g c =
-    let why = c.in_err-bytes.field-0.0 in
-    let is : c.from_residual.result ≡ Err why = search rules in
-    rw is (inl c.in_err-bytes.ensures.unread)
 
 pub returns-in_err-read_ellipsoid-clause-unread : goal.returns-in_err-read_ellipsoid-clause-unread
 returns-in_err-read_ellipsoid-clause-unread g c =

@@ -1,14 +1,7 @@
-use Rattle.std.proofs.Common.{◌≡◌, rules, subst, inl}
-use Rattle.std.specs.Prelude.{Err}
+use Rattle.std.proofs.Common.{subst}
 use Rattle.dsv_reader.specs.Texts.{IsPlantText}
 use Rattle.dsv_files.proofs.FileBytes.{plant_faulty}
 use Rattle.dsv_files.proofs.plant_file.read_plant_file.Goals as goal
-
-pub returns-in_err-bytes-clause-unread : goal.returns-in_err-bytes-clause-unread
-returns-in_err-bytes-clause-unread g c =
-    let why = c.in_err-bytes.field-0.0 in
-    let is : c.from_residual.result ≡ Err why = search rules in
-    rw is (inl c.in_err-bytes.ensures.unread)
 
 pub returns-clause-unread : goal.returns-clause-unread
 returns-clause-unread g c =

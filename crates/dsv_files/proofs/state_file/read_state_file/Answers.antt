@@ -1,14 +1,8 @@
-use Rattle.std.proofs.Common.{◌≡◌, sym, ◌∙◌, rules, inl, inr}
+use Rattle.std.proofs.Common.{◌≡◌, sym, ◌∙◌, rules, inr}
 use Rattle.std.specs.Prelude.{Err}
 use Rattle.dsv_report.specs.declared.stop.Stop.TheVariants as stop
 use Rattle.dsv_state_file.proofs.ReadFiles.{state_read}
 use Rattle.dsv_files.proofs.state_file.read_state_file.Goals as goal
-
-pub returns-in_err-bytes-clause-unread : goal.returns-in_err-bytes-clause-unread
-returns-in_err-bytes-clause-unread g c =
-    let why = c.in_err-bytes.field-0.0 in
-    let is : c.from_residual.result ≡ Err why = search rules in
-    rw is (inl c.in_err-bytes.ensures.unread)
 
 pub returns-in_err-read_state-clause-unread : goal.returns-in_err-read_state-clause-unread
 returns-in_err-read_state-clause-unread g c =

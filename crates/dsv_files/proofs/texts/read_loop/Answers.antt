@@ -1,14 +1,8 @@
-use Rattle.std.proofs.Common.{◌≡◌, rules, inl, inr}
+use Rattle.std.proofs.Common.{◌≡◌, rules, inr}
 use Rattle.std.specs.Prelude.{Err}
 use Rattle.dsv_files.proofs.FileBytes.{file_earlier, text_earlier}
 use Rattle.dsv_files.specs.Files.{a_plant}
 use Rattle.dsv_files.proofs.texts.read_loop.Goals as goal
-
-pub returns-in_err-controller-clause-unread : goal.returns-in_err-controller-clause-unread
-returns-in_err-controller-clause-unread g c =
-    let why = c.in_err-controller.field-0.0 in
-    let is : c.from_residual.result ≡ Err why = search rules in
-    rw is (inl c.in_err-controller.ensures.unread)
 
 pub returns-in_err-plant-clause-unread : goal.returns-in_err-plant-clause-unread
 returns-in_err-plant-clause-unread g c =
