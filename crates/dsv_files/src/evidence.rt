@@ -13,7 +13,7 @@ use dsv_command::Task;
 use dsv_report::{Stop, WhichFile};
 use std::alloc::Global;
 
-/// What a task names.
+/// What a task names: nothing, or what is in the file that it names.
 #[derive(Drop)]
 pub enum Evidence {
     Nothing,
@@ -22,6 +22,11 @@ pub enum Evidence {
 }
 
 /// The certificate in the file of this name.
+///
+/// # Errors
+///
+/// The file couldn't be read ([`Stop::ReadFault`]), it has more than 64 MiB, or its first line that
+/// is wrong ([`Stop::CertificateRefused`], with line 0 if it is too long); or there was no memory.
 pub fn read_certificate<F: Files>(
     alloc: Global,
     name: &str,
@@ -49,6 +54,11 @@ fn read_offer<F: Files>(alloc: Global, name: &str, files: &mut F) -> Result<Elli
 }
 
 /// What a task names, if it names a file.
+///
+/// # Errors
+///
+/// Those of [`read_certificate`]; of an ellipsoid the first fault of its text
+/// ([`Stop::EllipsoidText`]).
 pub fn read_evidence<F: Files>(alloc: Global, task: &Task, files: &mut F) -> Result<Evidence, Stop>
     ensures has { IfOk result
         (λ e. HasEvidence (F.seen files.old) (task_view task.now) (evidence_view e)) }

@@ -13,7 +13,8 @@ use dsv_reader::Controller;
 use dsv_report::{Stop, WhichFile};
 use std::alloc::Global;
 
-/// The controllers of a cascade: that of section 0, and those of the sections after it.
+/// The controllers of a cascade: that of section 0, and those of the sections after it, at most
+/// seven.
 #[derive(Drop)]
 pub struct SectionFiles {
     pub first: Controller,
@@ -21,7 +22,7 @@ pub struct SectionFiles {
     ghost few: { length later.items ≤ most_later },
 }
 
-/// The list with an item more.
+/// The list with an item more. It fails for want of memory alone.
 pub fn push_item<T: Drop>(list: &mut Vec<T>, item: T) -> Result<(), NoMemory>
     ensures { IfOk result (λ u. list.new.items ≡ list.old.items ++ item ∷ []) }
 {

@@ -20,7 +20,7 @@ use dsv_report::{Stop, WhichFile};
 use dsv_state_file::StateFile;
 use std::alloc::Global;
 
-/// What the files of a job have the texts of.
+/// What the files of a job have the texts of: one variant for each of its kinds.
 #[derive(Drop)]
 pub enum Texts {
     Controller(Controller),
@@ -112,7 +112,15 @@ fn read_cascade_loop<F: Files>(
     Ok(Texts::CascadeLoop { sections, plant })
 }
 
-/// The texts of the files that a job names, which are read in their order.
+/// The texts of the files that a job names, which are read in their order: the controller's or that
+/// of section 0, those of the later sections, the plant's.
+///
+/// # Errors
+///
+/// Why the first file that isn't of its kind isn't, where those before it are of theirs: its bytes
+/// couldn't be read ([`Stop::ReadFault`]), there are more than 65,536 ([`Stop::FileTooLong`]), or
+/// they have a first fault ([`Stop::FileRefused`], [`Stop::StateRefused`]). Each says which file it
+/// is. Want of memory comes wherever there is none.
 pub fn read_texts<F: Files>(alloc: Global, named: &JobFiles, files: &mut F) -> Result<Texts, Stop>
     ensures texts { IfOk result (λ came. HaveTexts (F.seen files.old) (files_view named.now)
         (texts_view came)) }
