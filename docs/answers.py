@@ -49,7 +49,8 @@ OVERFLOW = [
     Kind("Failed", 10, rf"{F}\nproperty OVERFLOW .*\ninputs .*",
          "A counterexample: these inputs overflow, in the last sample. There the exact value of this number is the first that is no word. With `--gain` "
          "the list has up to 4,096 inputs.",
-         "`--simulate` with these inputs, up to 64 of them, shows the value in its place. One more of `int_bits`, a smaller range of inputs, another "
+         "`--simulate` with these inputs, or more than 64 of them through a pipe into `--inputs`, as docs/GUIDE.md shows, shows the "
+         "value in its place. One more of `int_bits`, a smaller range of inputs, another "
          "realisation; or nothing, where a later operation undoes it and words wrap.",
          "integrator.dsv --property OVERFLOW --gain"),
     Kind("Inconclusive, `cause GAIN`", 20, rf"{I}\nproperty OVERFLOW .* gain\ncause GAIN .*",
@@ -214,9 +215,24 @@ TIMES = [
 
 OTHERS = [
     Kind("A simulation", 0, r"SIMULATION\n.*",
-         "`--simulate`: each line has the input, the output, and the exact value of each operation before it is fitted into a word.",
+         "`--simulate`, or `--inputs` of a list in a file: each line has the input, the output, and the exact value of each operation "
+         "before it is fitted into a word.",
          "compare the outputs with the board's.",
          "small/pole.dsv --simulate 4,4"),
+    Kind("The outputs of a run", 0, r"(?:-?\d+\n)+",
+         "`--outputs`, with `--simulate` or `--inputs`: the outputs alone, one a line.",
+         "compare them with the board's.",
+         "small/halving.dsv --inputs small/inputs.txt --outputs"),
+    Kind("The words", 0, r"sha256 .*",
+         "`--words`: the SHA-256 digest of each file that was read, with the name that the command line has for it; the format, the "
+         "rounding and the overflow mode; the range of the inputs, after which `cut` says that the format has no words for all of the "
+         "file's; and the words of the coefficients, as they stand in the written equations. In delta forms these are `delta` and the "
+         "lists in the delta operator. In a cascade the words of each section follow its number, from 0 on; the range is FILE's. Of a "
+         "state-space controller there are the rows of A, and b, c and d. In a report the same lines stand after its heading, with "
+         "TIMING the costs that it took too: so a field of the block `hardware` that was passed over for its spelling is seen. Of "
+         "`--check` the words are those of the certificate's design.",
+         "compare the words with those in the code on the board, and the digests with those of the files that are kept.",
+         "small/delta_two.dsv --words --realization DDFII"),
     Kind("A tally", 0, r"GENERATED .*",
          "`--generate`: of the generated controllers, how many have each verdict.",
          "nothing: it tries the program.",
@@ -228,7 +244,7 @@ OTHERS = [
     Kind("An accepted certificate", 0, r"CERTIFICATE ACCEPTED\n(?!.* plant\n).*",
          "`--check`: the controller of the file has the certificate's property, in the realisation, the rounding and the overflow mode of the certificate's "
          "second line. Of a certificate of kind `error` a line `error` follows: the range in which the output less that of exact arithmetic stays.",
-         "look at the certificate's second line, since the answer doesn't repeat the rounding and the mode.",
+         "`--words`, which says the rounding, the mode and the words, and the digests of both files.",
          "small/order_two.dsv --check small/order_two.cert"),
     Kind("An accepted certificate of a loop", 0, r"CERTIFICATE ACCEPTED\n.* plant\n",
          "`--check` with `--plant`: the loop of the controller with the plant is stable.",
@@ -277,6 +293,11 @@ REFUSED = [
          "small/wide_delta_sum.dsv --simulate 0 --realization DDFI"),
     Kind("25 `INPUT_RANGE`", 2, r"FILE REFUSED 25 .*", "the input of this number is no word", "inputs are words: 1.0 is 2^frac_bits",
          "small/pole.dsv --simulate 8"),
+    Kind("81 `NUMBER`", 2, r"INPUTS REFUSED 81 .*", "in this line of a file of inputs something isn't `-` or nothing before 1 to 15 digits",
+         "whole numbers, with blanks, line ends and commas between them", "small/halving.dsv --inputs small/inputs_wrong.txt"),
+    Kind("82 `MANY`", 2, r"INPUTS REFUSED 82 .*", "a file of inputs has more than 65,536 numbers", "a shorter run", None, "none stands here"),
+    Kind("83 `NONE`", 2, r"INPUTS REFUSED 83 .*", "a file of inputs has no number", "one at least", "small/halving.dsv --inputs small/inputs_blank.txt"),
+    Kind("84 `TOO_LONG`", 2, r"INPUTS REFUSED 84 .*", "a file of inputs has over 1 MiB", "a shorter file", None, "none stands here"),
     Kind("31 `ORDER`", 2, r"CASCADE REFUSED 31 .*", "this section of a cascade, 0 for FILE, has an order over 2", "split it",
          "small/half_pole.dsv --sections small/third_order.dsv --property STABILITY"),
     Kind("32 `MIXED`", 2, r"CASCADE REFUSED 32 .*", "this section of a cascade hasn't FILE's format or `wide`", "one format for all",
@@ -317,6 +338,8 @@ STOPPED = [
          "standard error names it, and says why", "small/half_pole.dsv --sections small/half_pole.dsv,small/none.dsv --property STABILITY"),
     Kind("The certificate's file", 3, r"READ FAULT CERTIFICATE\n", "it can't be read", "standard error names it, and says why",
          "small/order_two.dsv --check small/none.cert"),
+    Kind("The file of the inputs", 3, r"READ FAULT INPUTS\n", "it can't be read", "standard error names it, and says why",
+         "small/halving.dsv --inputs small/none.txt"),
     Kind("The output", 4, r"OUTPUT\n", "it failed, after a prefix of the text", "look at the disk", None, "none stands here"),
     Kind("Memory", 5, r"NO MEMORY\n", "out of memory", "fewer samples", None, "none stands here"),
     Kind("The job's size", 6, r"JOB SIZE .*", "samples (nine for `--unbounded`) times products times the square of a word's bits is over 250,000",
@@ -434,8 +457,13 @@ def stored_runs():
     return {case: (text, int(status)) for case, text, status in runs}
 
 
+# The lines that --words adds to a report, after its two first ones.
+TOLD = re.compile(r"(?<=\n)(?:sha256 .*\n)+format .*\n(?:(?:range|section|delta|a|b|c|d|cost_sample) .*\n)*")
+
+
 def is_of(kind, run):
-    return run[1] == kind.status and re.fullmatch(kind.pattern, run[0], re.S) is not None
+    """Whether what a case wrote, but for the lines that tell words, is an answer of this kind."""
+    return run[1] == kind.status and re.fullmatch(kind.pattern, TOLD.sub("", run[0], 1), re.S) is not None
 
 
 def faults_of(runs, kinds):
@@ -458,7 +486,7 @@ def place_of(argument):
 
 
 def command_of(case):
-    words = [",".join(place_of(file) for file in word.split(",")) if re.search(r"\.(?:dsv|states|cert|ellipsoid)$", word) else word
+    words = [",".join(place_of(file) for file in word.split(",")) if re.search(r"^[^-].*\.(?:dsv|states|cert|ellipsoid|txt)$", word) else word
              for word in case.split(" ")]
     return " ".join(["./dsv"] + words)
 

@@ -29,8 +29,9 @@ use Rattle.dsv_report.specs.declared.stop.Stop.TheVariants as stop
 use Rattle.dsv_report.specs.Stops.{Outcome}
 use Rattle.dsv_cli.specs.Accepted.{Accepts, HoldsTheSame, HoldTheSame, WrittenAreAccepted, check_of}
 use Rattle.dsv_files.specs.Files.{IsLost, a_controller, a_plant, a_state_controller, a_certificate, longest_certificate, IsFileOf}
-use Rattle.dsv_cli.specs.JobRows.{JobWords, of_words, of_state_words, BecomeJobWords, AreWordless, IsTaskDone, IsDoneBy, IsOfCheck, IsCheckOfRow, IsJobRow, IsAnswered}
-use Rattle.dsv_files.specs.JobTexts.{JobTexts, of_one, of_state_file, with_plant, HaveTexts, AreUnread, Evidence, certificate, ellipsoid, none, HasEvidence, IsSaidOf}
+use Rattle.dsv_cli.specs.JobRows.{IsTaskDone, IsDoneBy, IsOfCheck, IsCheckOfRow, IsJobRow, IsAnswered}
+use Rattle.dsv_cli.specs.Words.{JobWords, of_words, of_state_words, BecomeJobWords, AreWordless}
+use Rattle.dsv_files.specs.JobTexts.{JobTexts, of_one, of_state_file, with_plant, HaveTexts, AreUnread, Evidence, certificate, ellipsoid, input_list, none, HasEvidence, IsSaidOf}
 use Rattle.dsv_cli.specs.States.{IsOfForm}
 use Rattle.dsv_cli.proofs.CertifiedWords.{IsAcceptable, PassesFor, PassesForStates, controller_fits, loop_fits, states_fit}
 use Rattle.dsv_cli.proofs.Exact.{one_file, file_lost, one_written, words_lost, job_words_once}
@@ -122,6 +123,7 @@ named_form : (old : FilesSeen) (name : List ℕ) (c : Certificate) (e : Evidence
 named_form old name c (certificate d) held spelled h = ap certificate (one_written old old name d c held h spelled)
 named_form old name c none held spelled h = absurd h
 named_form old name c (ellipsoid offer) held spelled h = absurd h
+named_form old name c (input_list xs) held spelled h = absurd h
 
 form_done : (old new : FilesSeen) (file name : List ℕ) (design : Design) (t : StateFileView) (s : StateView) (c : Certificate) (found : Outcome) → AreThere old new (table_states file) (of_state_file t)
     → IsFileOf a_certificate old name (certificate_alone c) → HoldsTheSame old name old name → BecomeJobWords design (of_state_file t) (of_state_words s) → PassesForStates s (certificate_alone c)

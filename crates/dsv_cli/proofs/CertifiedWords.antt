@@ -75,7 +75,8 @@ use Rattle.dsv_tested.specs.Tested.{side_of, tested_of}
 use Rattle.dsv_cli.specs.Causes.{IsOfProperty}
 use Rattle.dsv_lyapunov.specs.Shown.{ShowsFall}
 use Rattle.dsv_poly_table.specs.Shown.{ShowsTable}
-use Rattle.dsv_cli.specs.JobRows.{of_words, of_state_words, IsTaskDone}
+use Rattle.dsv_cli.specs.JobRows.{IsTaskDone}
+use Rattle.dsv_cli.specs.Words.{of_words, of_state_words}
 use Rattle.dsv_files.specs.JobTexts.{of_one, of_state_file, with_plant, Evidence}
 use Rattle.dsv_cli.specs.Loops.{IsOfLoop}
 

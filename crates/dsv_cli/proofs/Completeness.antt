@@ -4,7 +4,7 @@ use Rattle.std.specs.Prelude.{◌≡◌, ◌⊎◌, Some, Ok, Err}
 use Rattle.dsv_base.specs.Counts.{Rose}
 use Rattle.dsv_base.specs.Seen.{FilesSeen}
 use Rattle.dsv_names.specs.declared.design.Design.{Design}
-use Rattle.dsv_command.specs.Table.{JobFiles, controller, cascade, states, plant_loop, cascade_loop, Task, checks_form, checks_ellipsoid, Request, does, checks, generates}
+use Rattle.dsv_command.specs.Table.{JobFiles, controller, cascade, states, plant_loop, cascade_loop, Task, checks_form, checks_ellipsoid, Request, does, checks, generates, runs_file}
 use Rattle.dsv_report.specs.Headings.{verdict_status}
 use Rattle.dsv_report.specs.Report.{verdict_of, stop_status}
 use Rattle.dsv_report.specs.Stops.{Outcome}
@@ -15,10 +15,11 @@ use Rattle.dsv_report.specs.declared.verdict.Verdict.{Verdict}
 use Rattle.dsv_report.specs.declared.verdict.Verdict.TheVariants.{Successful, Failed, Inconclusive, Simulation, Plain}
 use Rattle.dsv_files.specs.JobTexts.{IsLaterUnread}
 use Rattle.dsv_cli.specs.Completeness.{IsVerdict, IsRefusedByNone, IsDecidedBy, AreDecided}
-use Rattle.dsv_cli.specs.JobRows.{AreWordless, IsJobRow, IsCheckOfRow, IsAnswered}
+use Rattle.dsv_cli.specs.JobRows.{IsJobRow, IsCheckOfRow, IsAnswered}
+use Rattle.dsv_cli.specs.Words.{AreWordless}
 use Rattle.dsv_files.specs.JobTexts.{JobTexts, of_one, of_sections, of_state_file, with_plant, sections_with_plant, AreUnread, IsEvidenceUnread}
 use Rattle.dsv_cli.proofs.ExactTasks.{no_task_fault, no_check_fault}
-use Rattle.dsv_files.specs.Files.{a_controller, a_section, a_state_controller, a_plant, a_certificate, an_ellipsoid}
+use Rattle.dsv_files.specs.Files.{a_controller, a_section, a_state_controller, a_plant, a_certificate, an_ellipsoid, some_inputs}
 use Rattle.dsv_files.proofs.FileBytes.{file_rose}
 
 answer_verdict : (v : Verdict) → IsVerdict (verdict_status v)
@@ -44,6 +45,7 @@ stop_decided old new HasRow rose (stop.LoopRefused r) row none calm = absurd (no
 stop_decided old new HasRow rose (stop.InputRange index value) row none calm = absurd (none (Err (stop.InputRange index value)) (inr (inl refl)) row)
 stop_decided old new HasRow rose (stop.FileTooLong which) row none calm = absurd (none (Err (stop.FileTooLong which)) (inr (inl refl)) row)
 stop_decided old new HasRow rose (stop.JobSize size) row none calm = absurd (none (Err (stop.JobSize size)) (inr (inr (inl refl))) row)
+stop_decided old new HasRow rose (stop.InputsRefused r) row none calm = absurd (none (Err (stop.InputsRefused r)) (inr (inl refl)) row)
 stop_decided old new HasRow rose (stop.EllipsoidText r) row none calm = absurd (none (Err (stop.EllipsoidText r)) (inr (inr (inr refl))) row)
 stop_decided old new HasRow rose (stop.EllipsoidRefused r) row none calm = absurd (none (Err (stop.EllipsoidRefused r)) (inr (inr (inr refl))) row)
 stop_decided old new HasRow rose (stop.CertificateRefused line fault) row none calm = absurd (none (Err (stop.CertificateRefused line fault)) (inr (inr (inr refl))) row)
@@ -72,6 +74,7 @@ files_rose old new (cascade_loop name later plant) which (inr (inr h)) = file_ro
 evidence_rose : (old new : FilesSeen) (task : Task) (which : WhichFile) → IsEvidenceUnread old new task (stop.ReadFault which) → Rose old.faults new.faults
 evidence_rose old new (checks_form name) which h = file_rose a_certificate old new name which h
 evidence_rose old new (checks_ellipsoid name) which h = file_rose an_ellipsoid old new name which h
+evidence_rose old new (runs_file name outputs) which h = file_rose some_inputs old new name which h
 evidence_rose old new task which h = absurd h
 
 -- words are no fault of a read
@@ -95,7 +98,7 @@ check_rose old new files name which (inr (inr h)) = absurd (no_check_fault h.tex
 
 answer_rose : (old new : FilesSeen) (request : Request) (which : WhichFile) → IsAnswered old new (Some request) (Err (stop.ReadFault which)) → Rose old.faults new.faults
 answer_rose old new (does job) which h = job_rose old new job.files job.task job.design which h
-answer_rose old new (checks files name) which h = check_rose old new files name which h
+answer_rose old new (checks files name worded) which h = check_rose old new files name which h
 answer_rose old new (generates seed count) which h = absurd h.0
 
 pub all_decided : AreDecided

@@ -34,7 +34,7 @@ use Rattle.dsv_certfile.specs.Reading.{certificate_in}
 use Rattle.dsv_certfile.specs.declared.certificate.Certificate.{Certificate}
 use Rattle.dsv_certfile.specs.declared.fault.CertRefusal.{CertRefusal}
 use Rattle.dsv_certfile.specs.declared.fault.CertRefusal.TheVariants as unread
-use Rattle.dsv_command.specs.Table.{Request, JobFiles, controller, cascade, plant_loop, cascade_loop, Job, Task, checks_form, checks_ellipsoid, does, checks, generates}
+use Rattle.dsv_command.specs.Table.{Request, JobFiles, controller, cascade, plant_loop, cascade_loop, Job, Task, checks_form, checks_ellipsoid, does, checks, generates, runs_file}
 use Rattle.dsv_command.specs.Table.{states as table_states}
 use Rattle.dsv_report.specs.declared.stop.CertificateFault.TheVariants as fault
 use Rattle.dsv_report.specs.declared.stop.Stop.{Stop}
@@ -44,14 +44,18 @@ use Rattle.dsv_report.specs.declared.stop.WhichFile.TheVariants as file
 use Rattle.dsv_report.specs.Stops.{Outcome, stop_of_text}
 use Rattle.dsv_cli.specs.Accepted.{HoldsTheSame, AreTheSame, HoldTheSame}
 use Rattle.dsv_cli.specs.Cascades.{BecomeWords, IsNoCascade}
-use Rattle.dsv_files.specs.JobTexts.{AreControllers, IsLaterUnread}
+use Rattle.dsv_files.specs.JobTexts.{AreControllers, IsLaterUnread, input_list}
 use Rattle.dsv_cli.specs.Exact.{NamesTheSame, IsToldTheSame, RefusalsComeExactly}
 use Rattle.dsv_cli.specs.Causes.{IsOfGeneration}
-use Rattle.dsv_files.specs.Files.{IsLost, FileKind, a_controller, a_section, a_state_controller, a_plant, a_certificate, an_ellipsoid, which_of, limit_of, too_long_of, NoneCame, Content, IsText, IsRefusedBy, IsFaulty, IsFileOf, IsUnread}
-use Rattle.dsv_cli.specs.JobRows.{JobWords, of_words, of_series, of_state_words, BecomeJobWords, IsWordless, AreWordless, LacksEvidence, LacksWords, IsTaskDone, IsDoneBy, IsOfCheck, IsCheckedBy, IsAnswered}
+use Rattle.dsv_files.specs.Files.{IsLost, FileKind, a_controller, a_section, a_state_controller, a_plant, a_certificate, an_ellipsoid, which_of, limit_of, too_long_of, NoneCame, Content, IsText, IsRefusedBy, IsFaulty, IsFileOf, IsUnread, some_inputs}
+use Rattle.dsv_cli.specs.JobRows.{LacksEvidence, LacksWords, IsTaskDone, IsDoneBy, IsOfCheck, IsCheckedBy, IsAnswered, IsCheckOfRow}
+use Rattle.dsv_cli.specs.Words.{JobWords, of_words, of_series, of_state_words, BecomeJobWords, IsWordless, AreWordless}
 use Rattle.dsv_files.specs.JobTexts.{JobTexts, of_one, of_sections, of_state_file, with_plant, sections_with_plant, HaveTexts, AreUnread, Evidence, none, certificate, ellipsoid, HasEvidence, IsEvidenceUnread}
 use Rattle.dsv_cli.proofs.ExactTasks.{stopped_by, IsThis, task_exact, check_exact}
 use Rattle.dsv_files.proofs.Pairwise.{some_once, pair_at, pair_before, at_place, before_place}
+use Rattle.dsv_input_file.specs.InputTexts.{inputs_in}
+use Rattle.dsv_input_file.specs.declared.refusal.InputsRefusal.{InputsRefusal}
+use Rattle.dsv_report.specs.declared.stop.InputsFault.TheVariants as inputs_fault
 
 -- ---- what the bytes of a file come to
 -- they are over a limit, or their reading refuses them, or they are read
@@ -96,6 +100,7 @@ Fault a_state_controller = StateRefusal
 Fault a_plant = FileRefusal
 Fault a_certificate = CertRefusal
 Fault an_ellipsoid = TextRefusal
+Fault some_inputs = InputsRefusal
 
 abbrev reading_of : (kind : FileKind) → List ℕ → Result (Content kind) (Fault kind)
 reading_of a_controller = reading
@@ -104,6 +109,10 @@ reading_of a_state_controller = state_of
 reading_of a_plant = plant_reading
 reading_of a_certificate = certificate_in
 reading_of an_ellipsoid = ellipsoid_in
+reading_of some_inputs = inputs_in
+
+abbrev inputs_refused : InputsRefusal → Stop
+inputs_refused r = stop.InputsRefused (inputs_fault.Text r)
 
 abbrev refusal_of : (kind : FileKind) → Fault kind → Stop
 refusal_of a_controller = stop.FileRefused file.Controller
@@ -112,6 +121,7 @@ refusal_of a_state_controller = stop.StateRefused
 refusal_of a_plant = stop.FileRefused file.Plant
 refusal_of a_certificate = stop_of_text
 refusal_of an_ellipsoid = stop.EllipsoidText
+refusal_of some_inputs = inputs_refused
 
 abbrev ComesAs : (kind : FileKind) → List ℕ → Result (Content kind) Stop → Type 0
 ComesAs kind = Comes (limit_of (which_of kind)) (reading_of kind) (too_long_of (which_of kind)) (refusal_of kind)
@@ -123,6 +133,7 @@ is_read a_state_controller bytes c h = state_taken bytes c h
 is_read a_plant bytes p h = plant_text_read bytes p h
 is_read a_certificate bytes c h = h
 is_read an_ellipsoid bytes o h = h
+is_read some_inputs bytes xs h = h
 
 by_fault : (came : FileRefusal → Type 0) (which : WhichFile) (why : Stop) → IsRefusedBy came which why → (r : FileRefusal) × came r × (why ≡ stop.FileRefused which r)
 by_fault came which (stop.FileRefused w text.NoMemory) h = absurd h
@@ -139,6 +150,8 @@ is_refused a_certificate bytes (stop.CertificateRefused line (fault.Text r)) h =
 is_refused a_certificate bytes why h = absurd h
 is_refused an_ellipsoid bytes (stop.EllipsoidText r) h = (r, h, refl)
 is_refused an_ellipsoid bytes why h = absurd h
+is_refused some_inputs bytes (stop.InputsRefused (inputs_fault.Text r)) h = (r, h, refl)
+is_refused some_inputs bytes why h = absurd h
 
 file_read : (kind : FileKind) (old : FilesSeen) (name bytes : List ℕ) (x : Content kind) → old.held name ≡ Some bytes → IsFileOf kind old name x → ComesAs kind bytes (Ok x)
 file_read kind old name bytes x e h =
@@ -331,16 +344,20 @@ evidence_lost old then_old then_new (checks_form name) (certificate c) why same 
 evidence_lost old then_old then_new (checks_form name) e why same h k = absurd h
 evidence_lost old then_old then_new (checks_ellipsoid name) (ellipsoid o) why same h k = file_lost an_ellipsoid old then_old then_new name name o why same h k
 evidence_lost old then_old then_new (checks_ellipsoid name) e why same h k = absurd h
+evidence_lost old then_old then_new (runs_file name outputs) (input_list xs) why same h k = file_lost some_inputs old then_old then_new name name xs why same h k
+evidence_lost old then_old then_new (runs_file name outputs) e why same h k = absurd h
 evidence_lost old then_old then_new task e why same h k = absurd k
 
 evidence_once : (old new then_old then_new : FilesSeen) (task : Task) (v w : Stop) → NamesTheSame old then_old task → IsEvidenceUnread old new task v → IsEvidenceUnread then_old then_new task w → AreOne v w
 evidence_once old new then_old then_new (checks_form name) v w same h k = file_one a_certificate old new then_old then_new name v w same h k
 evidence_once old new then_old then_new (checks_ellipsoid name) v w same h k = file_one an_ellipsoid old new then_old then_new name v w same h k
+evidence_once old new then_old then_new (runs_file name outputs) v w same h k = file_one some_inputs old new then_old then_new name v w same h k
 evidence_once old new then_old then_new task v w same h k = absurd h
 
 names_back : (old then_old : FilesSeen) (task : Task) → NamesTheSame old then_old task → NamesTheSame then_old old task
 names_back old then_old (checks_form name) same = (same.0, same.2, same.1)
 names_back old then_old (checks_ellipsoid name) same = (same.0, same.2, same.1)
+names_back old then_old (runs_file name outputs) same = (same.0, same.2, same.1)
 names_back old then_old task same = tt
 
 -- ---- words
@@ -371,7 +388,7 @@ words_once design (c ∷ cs) (q ∷ qs) [] h k = absurd k
 words_once design (c ∷ cs) (q ∷ qs) (r ∷ rs) h k =
     ap (λ x. x ∷ qs) (one_word design c q r h.0 k.0) ∙ ap (λ xs. r ∷ xs) (words_once design cs qs rs h.1 k.1)
 
-word_or_not : (design : Design) (c : ControllerView) (q : QuantisedView) (r : QuantRefusal) → BecomesWords c design (Ok q) → BecomesWords c design (Err r) → ⊥
+pub word_or_not : (design : Design) (c : ControllerView) (q : QuantisedView) (r : QuantRefusal) → BecomesWords c design (Ok q) → BecomesWords c design (Err r) → ⊥
 word_or_not design c q r h k = read_or_refused (Ok q) q r refl (become_one c c design (Ok q) (Err r) refl h k)
 
 one_quant : (design : Design) (c : ControllerView) (r s : QuantRefusal) → BecomesWords c design (Err r) → BecomesWords c design (Err s) → r ≡ s
@@ -498,6 +515,10 @@ evidence_same old then_old (checks_ellipsoid name) (ellipsoid o) (ellipsoid p) s
     ap ellipsoid (read_once (ellipsoid_in same.0) o p (file_read an_ellipsoid old name same.0 o same.1 h).1 (file_read an_ellipsoid then_old name same.0 p same.2 k).1)
 evidence_same old then_old (checks_ellipsoid name) (ellipsoid o) f same h k = absurd k
 evidence_same old then_old (checks_ellipsoid name) e f same h k = absurd h
+evidence_same old then_old (runs_file name outputs) (input_list xs) (input_list ys) same h k =
+    ap input_list (read_once (inputs_in same.0) xs ys (file_read some_inputs old name same.0 xs same.1 h).1 (file_read some_inputs then_old name same.0 ys same.2 k).1)
+evidence_same old then_old (runs_file name outputs) (input_list xs) f same h k = absurd k
+evidence_same old then_old (runs_file name outputs) e f same h k = absurd h
 evidence_same old then_old task none none same h k = refl
 evidence_same old then_old task none f same h k = absurd k
 evidence_same old then_old task e f same h k = absurd h
@@ -621,7 +642,7 @@ checked_exact old then_old files name why found same named kept h k =
 abbrev RefusedCheck : FilesSeen → FilesSeen → JobFiles → List ℕ → Stop → Type 0
 RefusedCheck old new files name why = Unchecked old new files name why ⊎ IsCheckedBy old files name (Err why)
 
-check_refused_by : (old new : FilesSeen) (files : JobFiles) (name : List ℕ) (why : Stop) → IsAnswered old new (Some (checks files name)) (Err why) → RefusedCheck old new files name why ⊎ IsLost (Err why)
+check_refused_by : (old new : FilesSeen) (files : JobFiles) (name : List ℕ) (why : Stop) → IsCheckOfRow old new files name (Err why) → RefusedCheck old new files name why ⊎ IsLost (Err why)
 check_refused_by old new files name stop.NoMemory h = inr tt
 check_refused_by old new files name why (inl h) = inl (inl (inl h))
 check_refused_by old new files name why (inr (inl h)) = inl (inl (inr h))
@@ -641,7 +662,7 @@ check_refusal old new then_old then_new files name why w same named kept (inr d)
     inr (checked_lost then_old then_new old files name w (Err why) (same_back old then_old files same) (named.0, named.2, named.1) k d)
 
 checks_exact : (old new then_old then_new : FilesSeen) (files : JobFiles) (name : List ℕ) (why : Stop) (found : Outcome) → HoldTheSame old files then_old files → HoldsTheSame old name then_old name → (IsLost (Err why) → ⊥)
-    → RefusedCheck old new files name why ⊎ IsLost (Err why) → IsAnswered then_old then_new (Some (checks files name)) found → IsThis why found
+    → RefusedCheck old new files name why ⊎ IsLost (Err why) → IsCheckOfRow then_old then_new files name found → IsThis why found
 checks_exact old new then_old then_new files name why found same named kept (inr h) k = absurd (kept h)
 checks_exact old new then_old then_new files name why (Ok found) same named kept (inl h) d = check_answer old new then_old files name why (Ok found) same named kept h d
 checks_exact old new then_old then_new files name why (Err w) same named kept (inl h) k =
@@ -653,10 +674,10 @@ generation_lost seed count why h = absurd h
 
 pub come_exactly : RefusalsComeExactly
 come_exactly old new then_old then_new (does job) why found same kept h answered = job_exact old new then_old then_new job why found same.0 same.1 kept (refused_by old new job why h) answered
-come_exactly old new then_old then_new (checks files name) why found same kept h answered = checks_exact old new then_old then_new files name why found same.0 same.1 kept (check_refused_by old new files name why h) answered
+come_exactly old new then_old then_new (checks files name worded) why found same kept h answered = checks_exact old new then_old then_new files name why found same.0 same.1 kept (check_refused_by old new files name why h) answered
 come_exactly old new then_old then_new (generates seed count) why found same kept h answered = absurd (kept (generation_lost seed count why h.0))
 
 pub told_back : (old then_old : FilesSeen) (request : Request) → IsToldTheSame old then_old request → IsToldTheSame then_old old request
 told_back old then_old (does job) same = (same_back old then_old job.files same.0, names_back old then_old job.task same.1)
-told_back old then_old (checks files name) same = (same_back old then_old files same.0, (same.1.0, same.1.2, same.1.1))
+told_back old then_old (checks files name worded) same = (same_back old then_old files same.0, (same.1.0, same.1.2, same.1.1))
 told_back old then_old (generates seed count) same = tt

@@ -30,7 +30,7 @@ use Rattle.dsv_certcheck.specs.Found.{found_of, BecomesFor, IsFoundFor, IsFoundA
 use Rattle.dsv_certcheck.specs.StateChecks.{state_check}
 use Rattle.dsv_certcheck.specs.declared.check_refusal.CheckRefusal.{CheckRefusal}
 use Rattle.dsv_certcheck.specs.declared.check_refusal.CheckRefusal.TheVariants as refusal
-use Rattle.dsv_command.specs.Table.{Task, decides, checks_time, writes, searches, seeks_set, measures_gain, simulates, checks_form, seeks_form, checks_ellipsoid, seeks_ellipsoid}
+use Rattle.dsv_command.specs.Table.{Task, decides, checks_time, writes, searches, seeks_set, measures_gain, simulates, checks_form, seeks_form, checks_ellipsoid, seeks_ellipsoid, runs_file, tells_words}
 use Rattle.dsv_report.specs.declared.answers.Answer.TheVariants as answer
 use Rattle.dsv_report.specs.declared.answers.OutputError.{OutputError}
 use Rattle.dsv_report.specs.declared.stop.CertificateFault.TheVariants as fault
@@ -43,14 +43,18 @@ use Rattle.dsv_cli.specs.Checking.{stop_of_check}
 use Rattle.dsv_cli.specs.Ellipsoids.{IsOfOffer, IsOfSoughtEllipsoid}
 use Rattle.dsv_files.specs.Files.{IsLost}
 use Rattle.dsv_cli.specs.Gain.{IsOfGain}
-use Rattle.dsv_cli.specs.JobRows.{JobWords, of_words, of_series, of_state_words, subject_of, ErrorIs, IsOfSections, IsTaskDone, ChecksTo, IsOfCheck}
-use Rattle.dsv_files.specs.JobTexts.{JobTexts, of_one, of_sections, of_state_file, with_plant, sections_with_plant, Evidence, certificate, ellipsoid}
+use Rattle.dsv_cli.specs.JobRows.{subject_of, ErrorIs, IsOfSections, IsTaskDone, ChecksTo, IsOfCheck}
+use Rattle.dsv_cli.specs.Words.{JobWords, of_words, of_series, of_state_words}
+use Rattle.dsv_files.specs.JobTexts.{JobTexts, of_one, of_sections, of_state_file, with_plant, sections_with_plant, Evidence, certificate, ellipsoid, input_list}
 use Rattle.dsv_cli.specs.Loops.{IsOfLoop}
 use Rattle.dsv_cli.specs.Searching.{IsOfFormula, IsOfSearch}
 use Rattle.dsv_cli.specs.Simulating.{IsOfRun}
 use Rattle.dsv_cli.specs.States.{IsOfForm, IsOfStateTable}
 use Rattle.dsv_cli.proofs.OneAnswerTasks.{one_outside, within_or_large}
 use Rattle.dsv_files.proofs.Pairwise.{at_place}
+use Rattle.dsv_system.specs.Runs.{SampleRow}
+use Rattle.dsv_realise.specs.Runs.{IsRunOver}
+use Rattle.dsv_report.specs.declared.answers.Answer.{Answer}
 
 abbrev pub stopped_by : Stop → Outcome
 stopped_by why = Err why
@@ -102,13 +106,20 @@ gain_exact : (HasError : OutputError → Type 0) (s : SubjectView) → IsExact (
 gain_exact HasError s stop.NoMemory found h kept k = absurd (kept tt)
 gain_exact HasError s why found h kept k = absurd h
 
-run_exact : (s : SubjectView) (inputs : List ℤ) → IsExact (IsOfRun s inputs)
-run_exact s inputs (stop.InputRange i v) (Ok (answer.Simulated r)) h kept k = absurd (h.outside (at_place (IsWord s.runs.format) inputs i v h.there k.inputs_are_words))
-run_exact s inputs (stop.InputRange i v) (Err (stop.InputRange j w)) h kept k = inl (one_outside s.runs.format inputs j i w v k h (cases_order j i))
-run_exact s inputs (stop.InputRange i v) (Err stop.NoMemory) h kept k = inr tt
-run_exact s inputs (stop.InputRange i v) found h kept k = absurd k
-run_exact s inputs stop.NoMemory found h kept k = absurd (kept tt)
-run_exact s inputs why found h kept k = absurd h
+-- what is true of a run, of which the outputs alone are written or not
+run_of : (s : SubjectView) (inputs : List ℤ) (outputs : Bool) (found : Answer) → IsOfRun s inputs outputs (Ok found) → (rows : List SampleRow) × IsRunOver s inputs rows
+run_of s inputs false (answer.Simulated r) k = (r, k)
+run_of s inputs true (answer.Outputs r) k = (r, k)
+run_of s inputs false found k = absurd k
+run_of s inputs true found k = absurd k
+
+run_exact : (s : SubjectView) (inputs : List ℤ) (outputs : Bool) → IsExact (IsOfRun s inputs outputs)
+run_exact s inputs outputs (stop.InputRange i v) (Ok found) h kept k = absurd (h.outside (at_place (IsWord s.runs.format) inputs i v h.there (run_of s inputs outputs found k).1.inputs_are_words))
+run_exact s inputs outputs (stop.InputRange i v) (Err (stop.InputRange j w)) h kept k = inl (one_outside s.runs.format inputs j i w v k h (cases_order j i))
+run_exact s inputs outputs (stop.InputRange i v) (Err stop.NoMemory) h kept k = inr tt
+run_exact s inputs outputs (stop.InputRange i v) found h kept k = absurd k
+run_exact s inputs outputs stop.NoMemory found h kept k = absurd (kept tt)
+run_exact s inputs outputs why found h kept k = absurd h
 
 -- ---- ellipsoids
 some_once : {A : Type 0} → (found : Option A) (a b : A) → found ≡ Some a → found ≡ Some b → a ≡ b
@@ -184,7 +195,9 @@ form_exact s c why found h kept k = absurd h
 pub task_exact : (task : Task) (e : Evidence) (texts : JobTexts) (words : JobWords) → IsExact (IsTaskDone task e texts words)
 task_exact (searches p n conflicts) e texts words why found h kept k = search_exact p n conflicts (subject_of words) why found h kept k
 task_exact measures_gain e texts words why found h kept k = gain_exact (ErrorIs words) (subject_of words) why found h kept k
-task_exact (simulates inputs) e texts words why found h kept k = run_exact (subject_of words) inputs why found h kept k
+task_exact (simulates xs outputs) e texts words why found h kept k = run_exact (subject_of words) xs outputs why found h kept k
+task_exact (runs_file name outputs) (input_list xs) texts words why found h kept k = run_exact (subject_of words) xs outputs why found h kept k
+task_exact tells_words e texts words why found h kept k = absurd (cc)
 task_exact (decides p sc) e (of_one c) (of_words q) why found h kept k = absurd (kept (decision_lost sc h.poly why h.decision))
 task_exact (decides Stability sc) e (of_sections c cs) (of_series s) why found h kept k = absurd (kept (sections_lost sc s why h))
 task_exact (decides Stability true) e (of_state_file c) (of_state_words s) why found h kept k = absurd (kept (table_lost s why h))
@@ -207,7 +220,9 @@ no_loop_fault (Err why) which h = h
 pub no_task_fault : (task : Task) (e : Evidence) (texts : JobTexts) (words : JobWords) (which : WhichFile) → IsTaskDone task e texts words (Err (stop.ReadFault which)) → ⊥
 no_task_fault (searches p n conflicts) e texts words which h = h
 no_task_fault measures_gain e texts words which h = h
-no_task_fault (simulates inputs) e texts words which h = h
+no_task_fault (simulates xs outputs) e texts words which h = h
+no_task_fault (runs_file name outputs) (input_list xs) texts words which h = h
+no_task_fault tells_words e texts words which h = absurd (cc)
 no_task_fault (decides p sc) e (of_one c) (of_words q) which h = h.decision
 no_task_fault (decides Stability false) e (of_sections c cs) (of_series s) which h = h
 no_task_fault (decides Stability true) e (of_sections c cs) (of_series s) which h = h

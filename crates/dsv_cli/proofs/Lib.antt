@@ -6,6 +6,7 @@ pub mod BuiltIn
 pub mod CascadeRows
 pub mod Causes
 pub mod CertifiedWords
+pub mod CheckedWords
 pub mod Completeness
 pub mod Decisions
 pub mod Exact
@@ -19,6 +20,7 @@ pub mod OutputErrors
 pub mod RunRows
 pub mod Stages
 pub mod Suffixes
+pub mod ToldLines
 pub mod Unasked
 pub mod Undecided
 pub mod OneForms

@@ -12,7 +12,8 @@ use Rattle.dsv_cli.specs.Accepted.{HoldsTheSame, HoldTheSame}
 use Rattle.dsv_cli.specs.Exact.{NamesTheSame, IsToldTheSame}
 use Rattle.dsv_cli.specs.Causes.{IsOfGeneration}
 use Rattle.dsv_files.specs.Files.{IsLost}
-use Rattle.dsv_cli.specs.JobRows.{IsTaskDone, IsDoneBy, IsOfCheck, IsCheckedBy, BecomeJobWords, IsAnswered}
+use Rattle.dsv_cli.specs.JobRows.{IsTaskDone, IsDoneBy, IsOfCheck, IsCheckedBy, IsAnswered}
+use Rattle.dsv_cli.specs.Words.{BecomeJobWords}
 use Rattle.dsv_cli.specs.OneAnswer.{SameAnswer, IsSettled, HaveOneAnswer}
 use Rattle.dsv_cli.proofs.Exact.{come_exactly, texts_once, evidence_same, job_words_once, one_written, told_back}
 use Rattle.dsv_cli.proofs.OneAnswerTasks.{one_task, one_check}
@@ -57,7 +58,7 @@ tally_open seed count a h x = absurd h
 both : (old new then_old then_new : FilesSeen) (request : Request) (a b : Answer) → IsToldTheSame old then_old request → IsSettled (Ok a) → IsSettled (Ok b) → IsAnswered old new (Some request) (Ok a)
     → IsAnswered then_old then_new (Some request) (Ok b) → SameAnswer (Ok a) (Ok b)
 both old new then_old then_new (does job) a b same x y h k = done_once old then_old job.files job.task job.design a b same.0 same.1 x y h k
-both old new then_old then_new (checks files name) a b same x y h k = checked_once old then_old files name a b same.0 same.1 x y h k
+both old new then_old then_new (checks files name worded) a b same x y h k = checked_once old then_old files name a b same.0 same.1 x y h k
 both old new then_old then_new (generates seed count) a b same x y h k = absurd (tally_open seed count a h.0 x)
 
 pub one_answer : HaveOneAnswer

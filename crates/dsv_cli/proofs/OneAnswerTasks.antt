@@ -23,7 +23,7 @@ use Rattle.dsv_loop.specs.Loops.{loop_of}
 use Rattle.dsv_loop.specs.declared.refusal.LoopRefusal.{LoopRefusal}
 use Rattle.dsv_certfile.specs.declared.certificate.Certificate.{Certificate}
 use Rattle.dsv_certfile.specs.declared.ellipsoid.Ellipsoid.{Ellipsoid}
-use Rattle.dsv_command.specs.Table.{Task, decides, checks_time, writes, searches, seeks_set, measures_gain, simulates, checks_form, seeks_form, checks_ellipsoid, seeks_ellipsoid}
+use Rattle.dsv_command.specs.Table.{Task, decides, checks_time, writes, searches, seeks_set, measures_gain, simulates, checks_form, seeks_form, checks_ellipsoid, seeks_ellipsoid, runs_file, tells_words}
 use Rattle.dsv_report.specs.declared.answers.Answer.{Answer}
 use Rattle.dsv_report.specs.declared.answers.OutputError.{OutputError}
 use Rattle.dsv_report.specs.declared.answers.Answer.TheVariants as answer
@@ -48,8 +48,9 @@ use Rattle.dsv_bounded.specs.RunQuestions.{Happens, IsCycle}
 use Rattle.dsv_bounded.proofs.Verdicts.{trace_breaks, cycle_cycles}
 use Rattle.dsv_cli.specs.Causes.{IsDecision, IsOfProperty, IsOfTiming, IsOfSets}
 use Rattle.dsv_cli.specs.Ellipsoids.{IsOfOffer, IsOfSoughtEllipsoid}
-use Rattle.dsv_cli.specs.JobRows.{JobWords, of_words, of_series, of_state_words, subject_of, ErrorIs, IsOfSections, IsTaskDone, IsOfCheck}
-use Rattle.dsv_files.specs.JobTexts.{JobTexts, of_one, of_sections, of_state_file, with_plant, sections_with_plant, Evidence, certificate, ellipsoid}
+use Rattle.dsv_cli.specs.JobRows.{subject_of, ErrorIs, IsOfSections, IsTaskDone, IsOfCheck}
+use Rattle.dsv_cli.specs.Words.{JobWords, of_words, of_series, of_state_words}
+use Rattle.dsv_files.specs.JobTexts.{JobTexts, of_one, of_sections, of_state_file, with_plant, sections_with_plant, Evidence, certificate, ellipsoid, input_list}
 use Rattle.dsv_cli.specs.Loops.{IsOfLoop}
 use Rattle.dsv_cli.specs.States.{IsOfForm, IsOfSoughtForm, IsOfStateTable}
 use Rattle.dsv_timing.specs.Cycles.{IsTimingOf, IsOnTime}
@@ -136,10 +137,17 @@ one_outside format inputs i j v w h k (inr (inr l)) = absurd (k.outside (before_
 abbrev pub HasOne : (Outcome → Type 0) → Type 0
 HasOne HasRow = (a b : Answer) → IsSettled (Ok a) → IsSettled (Ok b) → HasRow (Ok a) → HasRow (Ok b) → SameAnswer (Ok a) (Ok b)
 
-one_run : (s : SubjectView) (inputs : List ℤ) → HasOne (IsOfRun s inputs)
-one_run s inputs (answer.Simulated r) (answer.Simulated t) x y h k = ap (λ it. Ok (answer.Simulated it)) (h.rows ∙ sym k.rows)
-one_run s inputs (answer.Simulated r) b x y h k = absurd k
-one_run s inputs a b x y h k = absurd h
+one_run : (s : SubjectView) (inputs : List ℤ) (outputs : Bool) → HasOne (IsOfRun s inputs outputs)
+one_run s inputs false (answer.Simulated r) (answer.Simulated t) x y h k = ap (λ it. Ok (answer.Simulated it)) (h.rows ∙ sym k.rows)
+one_run s inputs false (answer.Simulated r) b x y h k = absurd k
+one_run s inputs true (answer.Outputs r) (answer.Outputs t) x y h k = ap (λ it. Ok (answer.Outputs it)) (h.rows ∙ sym k.rows)
+one_run s inputs true (answer.Outputs r) b x y h k = absurd k
+one_run s inputs false a b x y h k = absurd h
+one_run s inputs true a b x y h k = absurd h
+
+one_words : (e : Evidence) (texts : JobTexts) (words : JobWords) → HasOne (IsTaskDone tells_words e texts words)
+one_words e texts words answer.Words b x y h k = sym k
+one_words e texts words a b x y h k = absurd (cc)
 
 -- ---- questions about runs
 pub within_or_large : (size given limit : ℕ) → size ≤ limit → given ≡ size → limit < given → ⊥
@@ -306,7 +314,9 @@ sought_form_open s a h x = absurd h
 pub one_task : (task : Task) (e : Evidence) (texts : JobTexts) (words : JobWords) → HasOne (IsTaskDone task e texts words)
 one_task (searches p n conflicts) e texts words a b x y h k = one_search p n conflicts words a b x y h k
 one_task measures_gain e texts words a b x y h k = one_gain (ErrorIs words) (subject_of words) a b x y h k
-one_task (simulates inputs) e texts words a b x y h k = one_run (subject_of words) inputs a b x y h k
+one_task (simulates xs outputs) e texts words a b x y h k = one_run (subject_of words) xs outputs a b x y h k
+one_task (runs_file name outputs) (input_list xs) texts words a b x y h k = one_run (subject_of words) xs outputs a b x y h k
+one_task tells_words e texts words a b x y h k = one_words e texts words a b x y h k
 one_task (decides p sc) e (of_one c) (of_words q) a b x y h k = one_property p sc q a b x y h k
 one_task (decides Stability sc) e (of_sections c cs) (of_series s) a b x y h k = one_sections sc s a b x y h k
 one_task (decides Stability true) e (of_state_file c) (of_state_words s) a b x y h k = absurd (states_open s a h x)

@@ -14,11 +14,12 @@ use Rattle.std.specs.Prelude.{Result, Err, [], ◌∷◌}
 use Rattle.dsv_cascade.specs.Cascades.{CascadeView, sections_of}
 use Rattle.dsv_quantiser.specs.QuantisedView.{QuantisedView}
 use Rattle.dsv_cli.specs.Causes.{IsOfProperty}
-use Rattle.dsv_command.specs.Table.{Task, decides, checks_form, checks_ellipsoid, searches, measures_gain, simulates, Request, does, checks, generates}
+use Rattle.dsv_command.specs.Table.{Task, decides, checks_form, checks_ellipsoid, searches, measures_gain, simulates, Request, does, checks, generates, runs_file, tells_words}
 use Rattle.dsv_report.specs.declared.answers.Answer.TheVariants as answer
 use Rattle.dsv_report.specs.Stops.{Outcome}
-use Rattle.dsv_cli.specs.JobRows.{JobWords, of_words, of_series, of_state_words, IsOfSections, IsTaskDone, IsOfCheck, IsAnswered}
-use Rattle.dsv_files.specs.JobTexts.{JobTexts, of_one, of_sections, of_state_file, with_plant, sections_with_plant, Evidence, certificate, ellipsoid}
+use Rattle.dsv_cli.specs.JobRows.{IsOfSections, IsTaskDone, IsOfCheck, IsAnswered}
+use Rattle.dsv_cli.specs.Words.{JobWords, of_words, of_series, of_state_words}
+use Rattle.dsv_files.specs.JobTexts.{JobTexts, of_one, of_sections, of_state_file, with_plant, sections_with_plant, Evidence, certificate, ellipsoid, input_list}
 use Rattle.dsv_cli.specs.Loops.{IsOfLoop}
 use Rattle.dsv_cli.specs.Proposers.{AsksSchurCohn, IfNoForm, Wants, is_low}
 use Rattle.dsv_cli.proofs.Unasked.{no_low}
@@ -45,7 +46,11 @@ sections_undecided false s poly kept verdict h = h
 task_undecided : (task : Task) (e : Evidence) (t : JobTexts) (w : JobWords) (poly : List ℤ) (kept : List KeptForm) (verdict : Jury) → IsTaskDone task e t w (Ok (answer.NoForm poly kept verdict)) → IsUndecided task poly
 task_undecided (searches p n conflicts) e t w poly kept verdict h = absurd h
 task_undecided measures_gain e t w poly kept verdict h = absurd h
-task_undecided (simulates inputs) e t w poly kept verdict h = absurd h
+task_undecided (simulates xs false) e t w poly kept verdict h = absurd h
+task_undecided (simulates xs true) e t w poly kept verdict h = absurd h
+task_undecided (runs_file name false) (input_list xs) t w poly kept verdict h = absurd h
+task_undecided (runs_file name true) (input_list xs) t w poly kept verdict h = absurd h
+task_undecided tells_words e t w poly kept verdict h = absurd (cc)
 task_undecided (decides p flag) e (of_one c) (of_words q) poly kept verdict h = property_undecided p flag q poly kept verdict h
 task_undecided (decides Stability flag) e (of_sections c cs) (of_series s) poly kept verdict h = absurd (sections_undecided flag s poly kept verdict h)
 task_undecided (decides Stability true) e (of_state_file c) (of_state_words s) poly kept verdict h = absurd h
@@ -64,7 +69,7 @@ check_undecided t c poly kept verdict h = absurd h
 
 pub low_is_decided : (old new : FilesSeen) (request : Option Request) (found : Outcome) → IsAnswered old new request found → IfNoForm found (λ poly kept. is_low poly ≡ false)
 low_is_decided old new (Some (does job)) (Ok (answer.NoForm poly kept verdict)) h = (task_undecided job.task h.evidence h.texts h.words poly kept verdict h.done).0
-low_is_decided old new (Some (checks files name)) (Ok (answer.NoForm poly kept verdict)) h = absurd (check_undecided h.texts h.written poly kept verdict h.check)
+low_is_decided old new (Some (checks files name worded)) (Ok (answer.NoForm poly kept verdict)) h = absurd (check_undecided h.texts h.written poly kept verdict h.check)
 low_is_decided old new (Some (generates seed count)) (Ok (answer.NoForm poly kept verdict)) h = absurd h.0
 low_is_decided old new None (Ok (answer.NoForm poly kept verdict)) h = absurd (no_answer h)
   where
@@ -75,7 +80,7 @@ low_is_decided old new request found h = tt
 
 pub table_decides : (old new : FilesSeen) (request : Option Request) (found : Outcome) → IsAnswered old new request found → Wants AsksSchurCohn request → IfNoForm found (λ poly kept. ⊥)
 table_decides old new (Some (does job)) (Ok (answer.NoForm poly kept verdict)) h asks = (task_undecided job.task h.evidence h.texts h.words poly kept verdict h.done).1 asks.1
-table_decides old new (Some (checks files name)) (Ok (answer.NoForm poly kept verdict)) h asks = absurd asks
+table_decides old new (Some (checks files name worded)) (Ok (answer.NoForm poly kept verdict)) h asks = absurd asks
 table_decides old new (Some (generates seed count)) (Ok (answer.NoForm poly kept verdict)) h asks = absurd asks
 table_decides old new None (Ok (answer.NoForm poly kept verdict)) h asks = absurd asks
 table_decides old new request found h asks = tt

@@ -28,8 +28,9 @@ check_of design (states file) name = does (record {
   task = checks_form name;
   design = design;
   certified = false;
+  worded = false;
 })
-check_of design files name = checks files name
+check_of design files name = checks files name false
 
 -- this answer to it is that the certificate is accepted, with its job, or for a state-space
 -- controller with the numbers of its form's places alone; unless a read failed or there was no

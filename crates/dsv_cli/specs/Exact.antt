@@ -2,7 +2,7 @@
 use Rattle.std.specs.Prelude.{◌≡◌, ◌⊎◌, Some, Err}
 use Rattle.dsv_base.specs.Seen.{FilesSeen}
 use Rattle.dsv_command.specs.Table.{Task, checks_form, checks_ellipsoid, Request}
-use Rattle.dsv_command.specs.Table.{does, checks, generates}
+use Rattle.dsv_command.specs.Table.{does, checks, generates, runs_file}
 use Rattle.dsv_report.specs.declared.stop.Stop.{Stop}
 use Rattle.dsv_report.specs.Stops.{Outcome}
 use Rattle.dsv_cli.specs.Accepted.{HoldsTheSame, HoldTheSame}
@@ -13,13 +13,14 @@ use Rattle.dsv_cli.specs.JobRows.{IsAnswered}
 abbrev pub NamesTheSame : FilesSeen → FilesSeen → Task → Type 0
 NamesTheSame old then_old (checks_form name) = HoldsTheSame old name then_old name
 NamesTheSame old then_old (checks_ellipsoid name) = HoldsTheSame old name then_old name
+NamesTheSame old then_old (runs_file name outputs) = HoldsTheSame old name then_old name
 NamesTheSame old then_old task = Unit {0}
 
 -- all files that a request names hold the same bytes, which are told
 abbrev pub IsToldTheSame : FilesSeen → FilesSeen → Request → Type 0
 IsToldTheSame old then_old (does job) =
     HoldTheSame old job.files then_old job.files × NamesTheSame old then_old job.task
-IsToldTheSame old then_old (checks files name) =
+IsToldTheSame old then_old (checks files name worded) =
     HoldTheSame old files then_old files × HoldsTheSame old name then_old name
 IsToldTheSame old then_old (generates seed count) = Unit {0}
 

@@ -8,17 +8,13 @@ use Rattle.dsv_names.specs.declared.design.Design.{Design}
 use Rattle.dsv_names.specs.declared.property.RootProperty.TheVariants.{Stability}
 use Rattle.dsv_reader.specs.Controllers.{ControllerView}
 use Rattle.dsv_reader.specs.Plants.{PlantView}
-use Rattle.dsv_quantiser.specs.Modes.{BecomesWords}
 use Rattle.dsv_quantiser.specs.QuantisedView.{QuantisedView}
 use Rattle.dsv_realise.specs.Controllers.{of_controller}
 use Rattle.dsv_realise.specs.SubjectView.{SubjectView}
 use Rattle.dsv_cascade.specs.Cascades.{CascadeView, sections_of}
-use Rattle.dsv_cascade.specs.Sections.{IsCascade}
 use Rattle.dsv_cascade.specs.Subjects.{of_cascade}
 use Rattle.dsv_cascade.specs.Stability.{AreJudged}
 use Rattle.dsv_poly_table.specs.Sections.{AreTabled}
-use Rattle.dsv_state_space.specs.Quantising.{BecomesStates}
-use Rattle.dsv_state_space.specs.StateView.{StateView}
 use Rattle.dsv_state_space.specs.Subjects.{of_states}
 use Rattle.dsv_loop.specs.Loops.{loop_of}
 use Rattle.dsv_certcheck.specs.Found.{IsChecked}
@@ -32,14 +28,12 @@ use Rattle.dsv_command.specs.Table.{JobFiles}
 use Rattle.dsv_command.specs.Table.{Task, decides, checks_time, writes, searches}
 use Rattle.dsv_command.specs.Table.{seeks_set, measures_gain, simulates, checks_form, seeks_form}
 use Rattle.dsv_command.specs.Table.{checks_ellipsoid, seeks_ellipsoid, Request, does, checks}
-use Rattle.dsv_command.specs.Table.{generates}
+use Rattle.dsv_command.specs.Table.{generates, runs_file, tells_words}
 use Rattle.dsv_report.specs.declared.answers.Answer.TheVariants as answer
 use Rattle.dsv_report.specs.declared.answers.OutputError.{OutputError}
 use Rattle.dsv_report.specs.declared.stop.Stop.{Stop}
 use Rattle.dsv_report.specs.declared.stop.Stop.TheVariants as stop
-use Rattle.dsv_report.specs.declared.stop.WhichFile.TheVariants as file
 use Rattle.dsv_report.specs.Stops.{Outcome}
-use Rattle.dsv_cli.specs.Cascades.{BecomeWords, IsNoCascade}
 use Rattle.dsv_cli.specs.Causes.{IsOfProperty, IsOfSets, IsOfTiming}
 use Rattle.dsv_cli.specs.Checking.{stop_of_check}
 use Rattle.dsv_cli.specs.Ellipsoids.{IsOfOffer, IsOfSoughtEllipsoid}
@@ -50,46 +44,15 @@ use Rattle.dsv_cli.specs.Searching.{IsOfFormula, IsOfSearch}
 use Rattle.dsv_cli.specs.Simulating.{IsOfRun}
 use Rattle.dsv_cli.specs.States.{IsOfSoughtForm, IsOfStateTable}
 use Rattle.dsv_cli.specs.States.{IsOfForm}
+use Rattle.dsv_cli.specs.Told.{AreLinesOf, AreLinesOfCheck}
+use Rattle.dsv_cli.specs.Words.{JobWords, of_words, of_series, of_state_words}
+use Rattle.dsv_cli.specs.Words.{BecomeJobWords, AreWordless}
 use Rattle.dsv_files.specs.Files.{a_certificate, IsFileOf, IsUnread}
 use Rattle.dsv_files.specs.JobTexts.{JobTexts, of_one, of_sections, of_state_file, with_plant}
 use Rattle.dsv_files.specs.JobTexts.{sections_with_plant, HaveTexts, AreUnread, Evidence}
-use Rattle.dsv_files.specs.JobTexts.{certificate, ellipsoid, HasEvidence, IsEvidenceUnread}
+use Rattle.dsv_files.specs.JobTexts.{certificate, ellipsoid, input_list, HasEvidence}
+use Rattle.dsv_files.specs.JobTexts.{IsEvidenceUnread}
 use Rattle.dsv_files.specs.JobTexts.{IsSaidOf}
-
--- ---- the files
--- ---- what a task names
--- ---- the words
-pub data JobWords : Type 0 where
-  of_words : QuantisedView → JobWords
-  of_series : CascadeView → JobWords
-  of_state_words : StateView → JobWords
-
--- what the files have becomes these words
-abbrev pub BecomeJobWords : Design → JobTexts → JobWords → Type 0
-BecomeJobWords design (of_one c) (of_words q) = BecomesWords c design (Ok q)
-BecomeJobWords design (with_plant c p) (of_words q) = BecomesWords c design (Ok q)
-BecomeJobWords design (of_sections c cs) (of_series s) =
-    BecomesWords c design (Ok s.first) × BecomeWords design cs s.later × IsCascade s
-BecomeJobWords design (sections_with_plant c cs p) (of_series s) =
-    BecomesWords c design (Ok s.first) × BecomeWords design cs s.later × IsCascade s
-BecomeJobWords design (of_state_file c) (of_state_words s) =
-    BecomesStates c design.rounding design.overflow (Ok s)
-BecomeJobWords design texts words = ⊥
-
--- why a controller becomes no words
-abbrev pub IsWordless : Design → ControllerView → Stop → Type 0
-IsWordless design c (stop.QuantRefused file.Controller r) = BecomesWords c design (Err r)
-IsWordless design c other = ⊥
-
--- why it becomes none
-abbrev pub AreWordless : Design → JobTexts → Stop → Type 0
-AreWordless design (of_one c) why = IsWordless design c why
-AreWordless design (with_plant c p) why = IsWordless design c why
-AreWordless design (of_sections c cs) why = IsNoCascade design c cs why
-AreWordless design (sections_with_plant c cs p) why = IsNoCascade design c cs why
-AreWordless design (of_state_file c) (stop.StateQuantRefused r) =
-    BecomesStates c design.rounding design.overflow (Err r)
-AreWordless design (of_state_file c) other = ⊥
 
 -- ---- the task
 -- what runs in words
@@ -116,8 +79,11 @@ IsTaskDone (searches property samples conflicts) evidence texts words found =
     IsOfSearch property samples conflicts (subject_of words) found
 IsTaskDone measures_gain evidence texts words found =
     IsOfGain (ErrorIs words) (subject_of words) found
-IsTaskDone (simulates inputs) evidence texts words found =
-    IsOfRun (subject_of words) inputs found
+IsTaskDone (simulates xs outputs) evidence texts words found =
+    IsOfRun (subject_of words) xs outputs found
+IsTaskDone (runs_file name outputs) (input_list xs) texts words found =
+    IsOfRun (subject_of words) xs outputs found
+IsTaskDone tells_words evidence texts words found = found ≡ Ok answer.Words
 IsTaskDone (decides property schur_cohn) evidence (of_one c) (of_words q) found =
     IsOfProperty property schur_cohn q found
 IsTaskDone (decides Stability schur_cohn) evidence (of_sections c cs) (of_series s) found =
@@ -214,7 +180,8 @@ IsAnswered old new None found =
     (found ≡ Err stop.NoMemory) ⊎ ((found ≡ Err stop.Usage) × (new ≡ old))
 IsAnswered old new (Some (does job)) found =
     IsJobRow old new job.files job.task job.design found
-IsAnswered old new (Some (checks files name)) found = IsCheckOfRow old new files name found
+IsAnswered old new (Some (checks files name worded)) found =
+    IsCheckOfRow old new files name found
 IsAnswered old new (Some (generates seed count)) found =
     IsOfGeneration seed count found × (new ≡ old)
 
@@ -247,6 +214,16 @@ abbrev pub IsSaid : (old new : FilesSeen) (request : Option Request) (found : Ou
 IsSaid old new (Some (does job)) found row many said =
     IsSaidBy old new job.files job.task job.design found row many said
 IsSaid old new other found row many said = IsNothing many said
+
+-- The lines that tell words in the report of an answer, beside its row: those of the texts of the
+-- row if the request asks for them, and else none. A refusal has no report.
+abbrev pub AreLines : (old new : FilesSeen) (request : Option Request) (found : Outcome)
+    → IsAnswered old new request found → List ℕ → Type 0
+AreLines old new (Some (does job)) (Ok found) row lines = AreLinesOf old job row.texts lines
+AreLines old new (Some (checks files name worded)) (Ok found) row lines =
+    AreLinesOfCheck old files name worded row.texts row.written lines
+AreLines old new request (Ok found) row lines = lines ≡ []
+AreLines old new request (Err why) row lines = Unit {0}
 
 -- these are the words in the row of an answer to a job, those of one controller
 abbrev pub AreInRow : (old new : FilesSeen) (request : Option Request) (found : Outcome)

@@ -20,4 +20,6 @@ pub mod Sets
 pub mod Simulating
 pub mod Stages
 pub mod States
+pub mod Told
 pub mod Turns
+pub mod Words

@@ -8,7 +8,7 @@ use Rattle.dsv_report.specs.Headings.{asked_by}
 use Rattle.dsv_report.specs.Output.{run_text, certificate_written}
 use Rattle.dsv_report.specs.Report.{status_of}
 use Rattle.dsv_cli.specs.declared.command.Done.{Done}
-use Rattle.dsv_cli.specs.JobRows.{IsAnswered, IsSaid, AreInRow}
+use Rattle.dsv_cli.specs.JobRows.{IsAnswered, IsSaid, AreInRow, AreLines}
 use Rattle.dsv_base.specs.Seen.{AreKept}
 use Rattle.dsv_base.specs.Taking.{IsWritten, IfWhole}
 use Rattle.dsv_cli.specs.Proposers.{IfNoForm, Wants, is_low, AsksSchurCohn}
@@ -27,6 +27,8 @@ pub record IsDone (old new : FilesSeen) (from to : SinkSeen) (arguments : List (
   -- what a certificate says of the words is what the texts of this row have, and so is how many
   -- states the report of a state-space controller says
   pub said : IsSaid old new (request_of arguments) done.outcome explained done.states done.words
+  -- the lines that tell words are those of the texts of this row, if they are asked for
+  pub lines : AreLines old new (request_of arguments) done.outcome explained done.lines
   -- the proposers of sets were asked for the words of this row
   pub sets : AreAsked (AreInRow old new (request_of arguments) done.outcome explained)
   -- what the files hold is as before
@@ -34,8 +36,8 @@ pub record IsDone (old new : FilesSeen) (from to : SinkSeen) (arguments : List (
   -- the certificate that the job wants, or the reason that is asked for, or else the outcome's
   -- text, was written and the status is the outcome's, or the status is 4 and the sink failed
   pub written : IsWritten from to done.status (status_of done.outcome)
-      (run_text (reason_of arguments) (asked_by done.states (request_of arguments)) done.words
-      done.outcome)
+      (run_text (reason_of arguments) (asked_by done.states (request_of arguments)) done.lines
+      done.words done.outcome)
   -- of a certificate that was written whole its types are known
   pub typed : IfWhole done.status (IfSome (certificate_written
       (asked_by done.states (request_of arguments)) done.words done.outcome) IsTyped)

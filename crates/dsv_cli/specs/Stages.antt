@@ -1,21 +1,24 @@
 -- For private contracts: what the stages of a job give, as the table has it.
-use Rattle.std.specs.Prelude.{◌≡◌, ◌⊎◌, ℕ, Option, Ok, Err}
+use Rattle.std.specs.Prelude.{◌≡◌, ◌⊎◌, ℕ, Bool, List, Option, Result, Ok, Err}
 use Rattle.dsv_base.specs.Seen.{FilesSeen}
 use Rattle.dsv_names.specs.declared.design.Design.{Design}
 use Rattle.dsv_quantiser.specs.QuantisedView.{QuantisedView}
 use Rattle.dsv_certfile.specs.declared.job.CertWords.{CertWords}
-use Rattle.dsv_command.specs.Table.{Request, Task, decides, seeks_set}
+use Rattle.dsv_command.specs.Table.{JobFiles, Request, Task, decides, seeks_set, tells_words}
 use Rattle.dsv_command.specs.declared.kind.Kind.{Kind}
 use Rattle.dsv_command.specs.declared.kind.Kind.TheVariants as of_kind
+use Rattle.dsv_report.specs.declared.stop.Stop.{Stop}
 use Rattle.dsv_report.specs.declared.stop.Stop.TheVariants as stop
 use Rattle.dsv_report.specs.Stops.{Outcome}
 use Rattle.dsv_files.specs.JobTexts as rows
 use Rattle.dsv_files.specs.JobTexts.{JobTexts, of_one, of_sections, of_state_file, with_plant}
 use Rattle.dsv_files.specs.JobTexts.{sections_with_plant, HasEvidence, IsEvidenceUnread}
-use Rattle.dsv_cli.specs.JobRows.{JobWords, of_words, of_series}
-use Rattle.dsv_cli.specs.JobRows.{of_state_words, BecomeJobWords, AreWordless, IsTaskDone}
-use Rattle.dsv_cli.specs.JobRows.{IsAnswered, IsSaid, AreInRow}
-use Rattle.dsv_files.specs.declared.evidence.Evidence.{Evidence}
+use Rattle.dsv_cli.specs.declared.check.Passed.{Passed}
+use Rattle.dsv_cli.specs.JobRows.{IsTaskDone, IsAnswered, IsSaid, AreInRow, AreLines}
+use Rattle.dsv_cli.specs.JobRows.{IsCheckedBy, IsCheckOfRow}
+use Rattle.dsv_cli.specs.Told.{AreLinesOfCheck}
+use Rattle.dsv_cli.specs.Words.{JobWords, of_words, of_series, of_state_words}
+use Rattle.dsv_cli.specs.Words.{BecomeJobWords, AreWordless}
 use Rattle.dsv_cli.specs.declared.in_words.InWords.{InWords}
 use Rattle.dsv_cli.specs.declared.in_words.InWords.TheVariants as in_words
 
@@ -58,6 +61,12 @@ IsRowFor old new came task design (Err why) = IsEvidenceUnread old new task why
     ⊎ (((evidence : rows.Evidence) × HasEvidence old task evidence × AreWordless design came why)
     ⊎ IsDoneFor old came task design (Err why))
 
+-- why there is neither evidence nor words for texts
+abbrev pub AreUnready : FilesSeen → FilesSeen → JobTexts → Task → Design → Stop → Type 0
+AreUnready old new came task design stop.NoMemory = Unit {0}
+AreUnready old new came task design why = IsEvidenceUnread old new task why
+    ⊎ ((evidence : rows.Evidence) × HasEvidence old task evidence × AreWordless design came why)
+
 -- these are the words in that row, those of one controller
 abbrev pub AreInRowFor : (old new : FilesSeen) (came : JobTexts) (task : Task) (design : Design)
     (found : Outcome) → IsRowFor old new came task design found → QuantisedView → Type 0
@@ -71,11 +80,17 @@ IsRowWith old new came task design found AreAsked = (row : IsRowFor old new came
     × AreAsked (AreInRowFor old new came task design found row)
 
 -- ---- proposers
--- the task is done without any
+-- the task is done without any, and asks more than what the words are
 abbrev pub NeedsNoProposer : Task → Type 0
 NeedsNoProposer (decides property schur_cohn) = ⊥
 NeedsNoProposer (seeks_set conflicts) = ⊥
+NeedsNoProposer tells_words = ⊥
 NeedsNoProposer other = Unit {0}
+
+-- the task asks more than what the words are
+abbrev pub AsksMore : Task → Type 0
+AsksMore tells_words = ⊥
+AsksMore other = Unit {0}
 
 -- it is a controller alone
 abbrev pub IsAlone : JobTexts → Type 0
@@ -87,6 +102,15 @@ IsNoController subject = IsAlone (texts_in subject) → ⊥
 
 -- ---- the row, with what is said beside it, and of proposers for its words
 abbrev pub IsSaidBeside : FilesSeen → FilesSeen → Option Request → Outcome → ℕ → CertWords
-    → ((QuantisedView → Type 0) → Type 0) → Type 0
-IsSaidBeside old new request found many said AreAsked = (row : IsAnswered old new request found)
-    × IsSaid old new request found row many said × AreAsked (AreInRow old new request found row)
+    → List ℕ → ((QuantisedView → Type 0) → Type 0) → Type 0
+IsSaidBeside old new request found many said lines AreAsked =
+    (row : IsAnswered old new request found) × IsSaid old new request found row many said
+    × AreLines old new request found row lines × AreAsked (AreInRow old new request found row)
+
+-- ---- the row of a check, with what its report tells
+abbrev pub IsCheckBeside : FilesSeen → FilesSeen → JobFiles → List ℕ → Bool → Result Passed Stop
+    → Type 0
+IsCheckBeside old new files name worded (Ok found) =
+    (row : IsCheckedBy old files name (Ok found.answer))
+    × AreLinesOfCheck old files name worded row.texts row.written found.lines
+IsCheckBeside old new files name worded (Err why) = IsCheckOfRow old new files name (Err why)

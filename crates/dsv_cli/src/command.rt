@@ -1,5 +1,5 @@
 // The command.
-ghost use Rattle.std.specs.Prelude.{◌≡◌, Some, None, Err, IfOk, IfSome, map, option_map};
+ghost use Rattle.std.specs.Prelude.{◌≡◌, [], Some, None, Err, IfOk, IfSome, map, option_map};
 ghost use Rattle.std.specs.Prelude.{string_bytes};
 ghost use Rattle.dsv_certfile.specs.Lawful.{IsWords};
 ghost use Rattle.dsv_certfile.specs.Typed.{IsTyped};
@@ -20,7 +20,7 @@ ghost use Rattle.dsv_cli.specs.Runs.{IsDone};
 use crate::jobs::Found;
 use crate::proposers::Proposers;
 use crate::requests::request_outcome;
-use dsv_base::{Files, Sink};
+use dsv_base::{Bytes, Files, Sink};
 use dsv_certfile::CertWords;
 use dsv_command::{Line, Reason, Request, read_line};
 use dsv_lyapunov::FormProposer;
@@ -41,6 +41,8 @@ pub struct Done {
     pub words: CertWords,
     /// How many states a state-space controller has, as its accepted file says; 0 of all else.
     pub states: u32,
+    /// The lines of its report that tell words.
+    pub lines: Bytes,
 }
 
 /// What a report is headed by, if the request is a job.
@@ -60,9 +62,11 @@ fn put_found<K: Sink>(sink: &mut K, heading: Option<Heading>, found: Found) -> D
     ensures outcome { result.outcome ≡ found.outcome }
     ensures words { result.words ≡ found.words }
     ensures states { result.states ≡ found.states }
+    ensures lines { result.lines ≡ found.lines }
     ensures written { IsWritten (K.seen sink.old) (K.seen sink.new) result.status
         (status_of found.outcome)
-        (output_of (option_map heading_view heading.entry) found.words found.outcome) }
+        (output_of (option_map heading_view heading.entry) found.lines found.words
+        found.outcome) }
     ensures typed { IfWhole result.status (IfSome
         (certificate_written (option_map heading_view heading.entry) found.words found.outcome)
         IsTyped) }
@@ -71,8 +75,9 @@ fn put_found<K: Sink>(sink: &mut K, heading: Option<Heading>, found: Found) -> D
         outcome,
         words,
         states,
+        lines,
     } = found;
-    let status = match put_output(sink, heading, words, &outcome) {
+    let status = match put_output(sink, heading, lines.as_slice(), words, &outcome) {
         Ok(()) => status_of(&outcome),
         Err(_) => WRITE_FAULT,
     };
@@ -81,27 +86,30 @@ fn put_found<K: Sink>(sink: &mut K, heading: Option<Heading>, found: Found) -> D
         outcome,
         words,
         states,
+        lines,
     }
 }
 
 /// Writes why nothing was found, where no request is known.
-pub(crate) fn put_refusal<K: Sink>(sink: &mut K, stop: Stop) -> Done
+pub(crate) fn put_refusal<K: Sink>(alloc: Global, sink: &mut K, stop: Stop) -> Done
     ensures outcome { result.outcome ≡ Err stop }
     ensures words { result.words ≡ words_said.Unsaid }
     ensures states { result.states ≡ 0 }
+    ensures lines { result.lines ≡ [] }
     ensures written { IsWritten (K.seen sink.old) (K.seen sink.new) result.status
-        (status_of (Err stop)) (output_of None words_said.Unsaid (Err stop)) }
+        (status_of (Err stop)) (output_of None [] words_said.Unsaid (Err stop)) }
     ensures typed { IfWhole result.status
         (IfSome (certificate_written None words_said.Unsaid (Err stop)) IsTyped) }
 {
-    put_found(sink, None, Found::unsaid(Err(stop)))
+    put_found(sink, None, Found::unsaid(Err(stop), Bytes::new(alloc)))
 }
 
 /// Writes why a line asks for nothing.
-fn put_explained<K: Sink>(sink: &mut K, reason: Reason<'_>) -> Done
+fn put_explained<K: Sink>(alloc: Global, sink: &mut K, reason: Reason<'_>) -> Done
     ensures outcome { result.outcome ≡ Err stop.Usage }
     ensures words { result.words ≡ words_said.Unsaid }
     ensures states { result.states ≡ 0 }
+    ensures lines { result.lines ≡ [] }
     ensures written { IsWritten (K.seen sink.old) (K.seen sink.new) result.status
         (status_of (Err stop.Usage)) (reason_text (reason_view reason.entry)) }
 {
@@ -115,6 +123,7 @@ fn put_explained<K: Sink>(sink: &mut K, reason: Reason<'_>) -> Done
         outcome,
         words: CertWords::Unsaid,
         states: 0,
+        lines: Bytes::new(alloc),
     }
 }
 
@@ -155,8 +164,8 @@ pub fn run<F: Files, K: Sink>(
             let heading = heading_of(&request, found.states);
             put_found(sink, heading, found)
         }
-        Ok(Line::Explains(reason)) => put_explained(sink, reason),
-        Ok(Line::AsksNothing) => put_refusal(sink, Stop::Usage),
-        Err(_) => put_refusal(sink, Stop::NoMemory),
+        Ok(Line::Explains(reason)) => put_explained(alloc, sink, reason),
+        Ok(Line::AsksNothing) => put_refusal(alloc, sink, Stop::Usage),
+        Err(_) => put_refusal(alloc, sink, Stop::NoMemory),
     }
 }

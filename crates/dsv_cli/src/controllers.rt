@@ -4,7 +4,8 @@ ghost use Rattle.dsv_command.specs.Table.{has_cell};
 ghost use Rattle.dsv_command.specs.Views.{task_view};
 ghost use Rattle.dsv_command.specs.declared.kind.Kind.TheVariants as of_kind;
 ghost use Rattle.dsv_cli.specs.Causes.{IsPlain};
-ghost use Rattle.dsv_cli.specs.JobRows.{IsTaskDone, of_words};
+ghost use Rattle.dsv_cli.specs.JobRows.{IsTaskDone};
+ghost use Rattle.dsv_cli.specs.Words.{of_words};
 ghost use Rattle.dsv_files.specs.JobTexts.{of_one};
 ghost use Rattle.dsv_cli.specs.Stages.{NeedsNoProposer};
 ghost use Rattle.dsv_files.specs.Views.{IsEvidenceFor, evidence_view};
@@ -44,16 +45,32 @@ pub(crate) fn controller_answer(
             run_answer(alloc, quantised, RunTask::Search(question, budget))
         }
         Task::MeasureGain => controller_gain_answer(alloc, quantised),
-        Task::Simulate(inputs) => {
-            run_answer(alloc, quantised, RunTask::Simulate(inputs.as_slice()))
+        Task::Simulate(inputs, outputs) => {
+            run_answer(
+                alloc,
+                quantised,
+                RunTask::Simulate(inputs.as_slice(), *outputs),
+            )
         }
+        Task::RunFile(_, outputs) => match evidence {
+            Evidence::Inputs(inputs) => {
+                run_answer(
+                    alloc,
+                    quantised,
+                    RunTask::Simulate(inputs.as_slice(), *outputs),
+                )
+            }
+            _ => unreachable!(),
+        },
         Task::CheckEllipsoid(_) => match evidence {
             Evidence::Ellipsoid(offer) => offer_answer(quantised, offer),
             _ => unreachable!(),
         },
         Task::SeekEllipsoid => sought_answer(quantised),
-        Task::Decide(_) | Task::SeekSet(_) | Task::CheckForm(_) | Task::SeekForm => {
-            unreachable!()
-        }
+        Task::Decide(_)
+        | Task::SeekSet(_)
+        | Task::CheckForm(_)
+        | Task::SeekForm
+        | Task::TellWords => { unreachable!() }
     }
 }

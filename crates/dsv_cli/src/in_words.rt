@@ -1,6 +1,6 @@
 // The words that what files have becomes in a design.
 ghost use Rattle.std.specs.Prelude.{◌≡◌, IfOk, IfErr};
-ghost use Rattle.dsv_cli.specs.JobRows.{AreWordless, BecomeJobWords};
+ghost use Rattle.dsv_cli.specs.Words.{AreWordless, BecomeJobWords};
 ghost use Rattle.dsv_cli.specs.Stages.{texts_in, words_in};
 ghost use Rattle.dsv_files.specs.Views.{texts_view};
 

@@ -25,6 +25,7 @@ mod sets;
 mod simulation;
 mod states;
 mod timing;
+mod told;
 mod turns;
 
 pub use command::{Done, run};

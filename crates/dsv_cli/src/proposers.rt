@@ -42,12 +42,12 @@ fn run_with<F: Files, K: Sink>(
         (AreOfJob becomes (λ q. Some (boxes (shape_of q)) ∷ []))) }
 {
     let Ok(second) = Box::new(alloc, SumProposer::new()) else {
-        return put_refusal(sink, Stop::NoMemory);
+        return put_refusal(alloc, sink, Stop::NoMemory);
     };
     let mut sets: Vec<Box<dyn InvariantProposer>> = Vec::new(alloc);
     let mut forms: Vec<Box<dyn FormProposer>> = Vec::new(alloc);
     if sets.push(first).is_err() || forms.push(second).is_err() {
-        return put_refusal(sink, Stop::NoMemory);
+        return put_refusal(alloc, sink, Stop::NoMemory);
     }
     let mut proposers = Proposers { sets, forms };
     run(alloc, arguments, files, sink, &mut proposers)
@@ -68,7 +68,7 @@ pub fn run_with_built_in<F: Files, K: Sink>(
         (AreOfJob becomes (λ q. Some (boxes (shape_of q)) ∷ []))) }
 {
     let Ok(first) = Box::new(alloc, BoxProposer::new()) else {
-        return put_refusal(sink, Stop::NoMemory);
+        return put_refusal(alloc, sink, Stop::NoMemory);
     };
     run_with(alloc, arguments, files, sink, first)
 }

@@ -11,10 +11,10 @@ ghost use Rattle.dsv_cli.specs.Proposers.{IsAsked, AreSetsAsked};
 ghost use Rattle.dsv_cli.specs.Stages.{IsSaidBeside};
 ghost use Rattle.dsv_cli.specs.Proposers.{Wants, Decides, AsksSchurCohn, Seeks};
 
-use crate::check::check_outcome;
+use crate::check::{Passed, check_outcome};
 use crate::jobs::{Found, job_outcome};
 use crate::proposers::Proposers;
-use dsv_base::Files;
+use dsv_base::{Bytes, Files};
 use dsv_command::{Generation, Request};
 use dsv_generator::generate;
 use dsv_lyapunov::FormProposer;
@@ -40,7 +40,7 @@ pub(crate) fn request_outcome<F: Files>(
     requires { IsInTable (request_view request.now) }
     ensures row { IsSaidBeside (F.seen files.old) (F.seen files.new)
         (Some (request_view request.now)) result.outcome result.states result.words
-        (λ becomes. AreSetsAsked (λ b. b.ptr)
+        result.lines (λ becomes. AreSetsAsked (λ b. b.ptr)
         (λ b. (⟦<dyn InvariantProposer as InvariantProposer>⟧ b.vtable).last b.value)
         (λ b shape. (⟦<dyn InvariantProposer as InvariantProposer>⟧ b.vtable).to_come b.value shape)
         becomes proposers.old.sets.items proposers.new.sets.items result.outcome) }
@@ -63,7 +63,13 @@ pub(crate) fn request_outcome<F: Files>(
         Request::Check {
             files: named,
             certificate,
-        } => Found::unsaid(check_outcome(alloc, named, certificate, files)),
-        Request::Generate(asked) => Found::unsaid(generation_answer(alloc, *asked)),
+            worded,
+        } => match check_outcome(alloc, named, certificate, *worded, files) {
+            Ok(Passed { answer, lines }) => Found::unsaid(Ok(answer), lines),
+            Err(stop) => Found::unsaid(Err(stop), Bytes::new(alloc)),
+        },
+        Request::Generate(asked) => {
+            Found::unsaid(generation_answer(alloc, *asked), Bytes::new(alloc))
+        }
     }
 }

@@ -8,6 +8,7 @@ pub enum RunTask<'a> {
     Search(&'a RunQuestion, &'a Budget),
     /// It is decided by the gain whether any list of inputs, of any length, overflows.
     MeasureGain,
-    /// It is run over these inputs, from registers that are 0.
-    Simulate(&'a [i64]),
+    /// It is run over these inputs, from registers that are 0; the flag: its outputs alone are
+    /// written.
+    Simulate(&'a [i64], bool),
 }

@@ -24,6 +24,6 @@ pub(crate) fn run_answer<S: Subject>(
     match task {
         RunTask::Search(question, budget) => search_answer(alloc, &asking, question, budget),
         RunTask::MeasureGain => gain_answer(alloc, &asking),
-        RunTask::Simulate(inputs) => simulation_answer(alloc, &asking, inputs),
+        RunTask::Simulate(inputs, outputs) => simulation_answer(alloc, &asking, inputs, outputs),
     }
 }

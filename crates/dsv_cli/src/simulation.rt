@@ -22,7 +22,7 @@ struct Numbered {
 
 /// The first input that is no word of the format.
 fn find_outside(format: &Format, inputs: &[i64]) -> Option<Numbered>
-    requires { length inputs.now ≤ 64 }
+    requires { length inputs.now ≤ 65536 }
     ensures { MatchOption result (All (IsWord format.now) inputs.now)
         (λ found. IsFirstOutside format.now inputs.now found.index found.value) }
 {
@@ -39,7 +39,7 @@ fn find_outside(format: &Format, inputs: &[i64]) -> Option<Numbered>
 
 /// Why there is no answer where an input is no word of the format.
 fn outside_stop(format: &Format, inputs: &[i64]) -> Option<Stop>
-    requires { length inputs.now ≤ 64 }
+    requires { length inputs.now ≤ 65536 }
     ensures none { IfNone result (All (IsWord format.now) inputs.now) }
     ensures first { IfSome result (λ why. (index : ℕ) × (value : ℤ)
         × (why ≡ stop.InputRange index value)
@@ -52,18 +52,25 @@ fn outside_stop(format: &Format, inputs: &[i64]) -> Option<Stop>
     })
 }
 
-/// The answer to a simulation over these inputs.
+/// The answer to a simulation over these inputs, of which the outputs alone are written if the flag
+/// is set.
 pub(crate) fn simulation_answer<S: Subject>(
     alloc: Global,
     asking: &Asking<S>,
     inputs: &[i64],
+    outputs: bool,
 ) -> Result<Answer, Stop>
-    requires { length inputs.now ≤ 64 }
-    ensures run { IsOfRun (S.view asking.now.subject.now) inputs.now result }
+    requires { length inputs.now ≤ 65536 }
+    ensures run { IsOfRun (S.view asking.now.subject.now) inputs.now outputs result }
     ensures plain { IsPlain result }
 {
     if let Some(stop) = outside_stop(&asking.net.format(), inputs) {
         return Err(stop);
     }
-    Ok(Answer::Simulated(asking.rows(alloc, inputs)?))
+    let rows = asking.rows(alloc, inputs)?;
+    if outputs {
+        Ok(Answer::Outputs(rows))
+    } else {
+        Ok(Answer::Simulated(rows))
+    }
 }

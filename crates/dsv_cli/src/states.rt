@@ -5,9 +5,11 @@ ghost use Rattle.dsv_command.specs.Views.{task_view};
 ghost use Rattle.dsv_command.specs.declared.kind.Kind.TheVariants as of_kind;
 ghost use Rattle.dsv_state_file.specs.StateFiles.{StateFileView};
 ghost use Rattle.dsv_cli.specs.Causes.{IsPlain};
-ghost use Rattle.dsv_cli.specs.JobRows.{IsTaskDone, of_state_words};
+ghost use Rattle.dsv_cli.specs.JobRows.{IsTaskDone};
+ghost use Rattle.dsv_cli.specs.Words.{of_state_words};
 ghost use Rattle.dsv_files.specs.JobTexts.{of_state_file};
 ghost use Rattle.dsv_files.specs.Views.{IsEvidenceFor, evidence_view};
+ghost use Rattle.dsv_cli.specs.Stages.{AsksMore};
 ghost use Rattle.dsv_cli.specs.States.{IsOfForm, IsOfSoughtForm, IsOfStateTable};
 
 use crate::check::check_stop;
@@ -75,6 +77,7 @@ pub(crate) fn states_answer(
 ) -> Result<Answer, Stop>
     requires cell { has_cell of_kind.States (task_view task.now) ≡ true }
     requires evidence { IsEvidenceFor (task_view task.now) (evidence_view evidence.now) }
+    requires asks { AsksMore (task_view task.now) }
     // Whatever its file.
     ensures task { (file : StateFileView) → IsTaskDone (task_view task.now)
         (evidence_view evidence.now) (of_state_file file) (of_state_words system.now) result }
@@ -91,7 +94,23 @@ pub(crate) fn states_answer(
             run_answer(alloc, system, RunTask::Search(question, budget))
         }
         Task::MeasureGain => run_answer(alloc, system, RunTask::MeasureGain),
-        Task::Simulate(inputs) => run_answer(alloc, system, RunTask::Simulate(inputs.as_slice())),
+        Task::Simulate(inputs, outputs) => {
+            run_answer(
+                alloc,
+                system,
+                RunTask::Simulate(inputs.as_slice(), *outputs),
+            )
+        }
+        Task::RunFile(_, outputs) => match evidence {
+            Evidence::Inputs(inputs) => {
+                run_answer(
+                    alloc,
+                    system,
+                    RunTask::Simulate(inputs.as_slice(), *outputs),
+                )
+            }
+            _ => unreachable!(),
+        },
         _ => unreachable!(),
     }
 }

@@ -67,10 +67,6 @@ or_right : (a b : Bool) → (a || b) ≡ false → b ≡ false
 or_right false b h = h
 or_right true b h = absurd (cc)
 
-or_left : (a b : Bool) → (a || b) ≡ false → a ≡ false
-or_left false b h = refl
-or_left true b h = absurd (cc)
-
 value_step : (n value name : List ℕ) (ps : List PartView) (b : Bool) → bytes_eq n name ≡ b → (b || is_given ps name) ≡ false → value_of name ps ≡ None → (if b then Some value else value_of name ps) ≡ None
 value_step n value name ps true e h k = absurd (cc)
 value_step n value name ps false e h k = k

@@ -5,7 +5,7 @@ use Rattle.dsv_names.specs.declared.property.RootProperty.TheVariants.{Stability
 use Rattle.dsv_command.specs.declared.kind.Kind.{Kind}
 use Rattle.dsv_command.specs.declared.kind.Kind.TheVariants as of_kind
 use Rattle.dsv_command.specs.ClapCommand.{filled}
-use Rattle.dsv_command.specs.Finding.{unless_given, unless_file, first_other, task_in, task_part, kind_in, check_states, is_incomplete, check_cell, certificate_part, check_certificate, check_realisation, check_cell_whole, check_whole, files_in, check_job, job_in, all_job_options, checked_files, check_in, generation_in, done, request_by, asked_by, asked_of}
+use Rattle.dsv_command.specs.Finding.{unless_given, unless_file, first_other, task_in, task_part, kind_in, check_states, is_incomplete, check_cell, certificate_part, check_certificate, words_part, check_words, check_realisation, check_cell_whole, check_whole, files_in, check_job, job_in, all_job_options, checked_files, check_in, generation_in, done, request_by, asked_by, asked_of}
 use Rattle.dsv_command.specs.Limits.{default_controllers}
 use Rattle.dsv_command.specs.Options.{command_options}
 use Rattle.dsv_command.specs.Parts.{PartView, flag, is_given, file_of, value_of, has_empty}
@@ -13,7 +13,7 @@ use Rattle.dsv_command.specs.Reading.{parts_of}
 use Rattle.dsv_command.specs.Reasons.{Reason, apart, fault_of, marks_of}
 use Rattle.dsv_command.specs.Requests.{IsInTable, IsCertifiable}
 use Rattle.dsv_command.specs.Rules.{IsSeed, AreValues, HasOnly, AreFiles, IsTask, IsJobOf, IsCheckOf, IsGenerationOf, IsRequestOf, IsRequestLine}
-use Rattle.dsv_command.specs.Table.{JobFiles, controller, plant_loop, Task, decides, checks_form, seeks_form, Job, Request, does, checks, generates, kind_of, has_cell, may_certify, is_checked, task_options, all_task_options, file_options, all_file_options, all_design_options}
+use Rattle.dsv_command.specs.Table.{JobFiles, controller, plant_loop, Task, decides, checks_form, seeks_form, Job, Request, does, checks, generates, kind_of, has_cell, may_certify, may_word, is_checked, task_options, all_task_options, file_options, all_file_options, all_design_options}
 use Rattle.dsv_command.specs.Values.{Values, values_in}
 use Rattle.dsv_command.proofs.FileLaws.{files_read, kind_checked, files_found, no_file, none_given}
 use Rattle.dsv_command.proofs.OnlyLaws.{off, unless, only_append, only_before, only_after, no_value, first_by_only, only_by_first, AreTyped, parts_typed, unvalued}
@@ -40,6 +40,8 @@ whole_task parts v kind t (IsTask.search ps w p e) h = whole_cell kind t h
 whole_task parts v kind t (IsTask.unbounded ps w e u) h = whole_cell kind t h
 whole_task parts v kind t (IsTask.gain ps w e g) h = whole_cell kind t h
 whole_task parts v kind t (IsTask.simulation ps w xs e) h = whole_cell kind t h
+whole_task parts v kind t (IsTask.file_run ps w name e) h = whole_cell kind t h
+whole_task parts v kind t (IsTask.words_alone ps w e) h = whole_cell kind t h
 whole_task parts v kind t (IsTask.named_form ps w name e f) h = whole_cell kind t h
 whole_task parts v kind t (IsTask.sought_form ps w e l) h = whole_cell kind t h
 whole_task parts v kind t (IsTask.named_ellipsoid ps w name e u l) h = rw u refl
@@ -53,6 +55,8 @@ realised_task parts v t (IsTask.search ps w p e) = refl
 realised_task parts v t (IsTask.unbounded ps w e u) = refl
 realised_task parts v t (IsTask.gain ps w e g) = refl
 realised_task parts v t (IsTask.simulation ps w xs e) = refl
+realised_task parts v t (IsTask.file_run ps w name e) = refl
+realised_task parts v t (IsTask.words_alone ps w e) = refl
 realised_task parts v t (IsTask.named_form ps w name e f) = refl
 realised_task parts v t (IsTask.sought_form ps w e l) = refl
 realised_task parts v t (IsTask.named_ellipsoid ps w name e u l) = refl
@@ -69,13 +73,15 @@ job_checked parts v job h kind =
     let only = first_by_only parts (task_options job.task) all_task_options h.task_options in
     let certified = certified_by (is_given parts (codes "certificate")) (may_certify (kind_of job.files) job.task) (apart (certificate_part (kind_of job.files) job.task) (flag (codes "certificate")))
     (λ g. h.certificate (h.certified ∙ g)) in
+    let worded = certified_by (is_given parts (codes "words")) (may_word (is_given parts (codes "certificate")) job.task) (apart (words_part (is_given parts (codes "certificate")) job.task) (flag (codes "words")))
+    (λ g. subst (λ (c : Bool). may_word c job.task ≡ true) h.certified (h.words (h.worded ∙ g))) in
     rw (only, kind)
-    (rw (kind_checked parts v job.files h.files h.file_options h.design_options, h.cell, certified, realised_task parts v job.task h.task, whole_task parts v (kind_of job.files) job.task h.task h.cell) refl)
+    (rw (kind_checked parts v job.files h.files h.file_options h.design_options, h.cell, certified, worded, realised_task parts v job.task h.task, whole_task parts v (kind_of job.files) job.task h.task h.cell) refl)
 
 job_read : (parts : List PartView) (v : Values) (job : Job) → AreValues parts v → IsJobOf parts v job → job_in parts v ≡ Ok job
 job_read parts v job values h =
     let f = files_read parts v job.files values h.files h.file_options in
-    rw (task_read parts v job.task values h.task h.task_options, job_checked parts v job h f.kind, f.read) (rw (sym h.design, sym h.certified) refl)
+    rw (task_read parts v job.task values h.task h.task_options, job_checked parts v job h f.kind, f.read) (rw (sym h.design, sym h.certified, sym h.worded) refl)
 
 no_seed : (parts : List PartView) (v : Values) → AreValues parts v → is_given parts (codes "generate") ≡ false → v.seed ≡ None
 no_seed parts v h e = none_as IsSeed (value_of (codes "generate") parts) v.seed h.seed (no_value parts (codes "generate") e)
@@ -100,8 +106,8 @@ check_only parts v found (AreFiles.state_spaces ps w name f s) c only = absurd (
 check_only parts v found (AreFiles.loops ps w name plant f p) c only = (off ps (codes "plant" ∷ []) (codes "state-space") only.0 refl, off ps (codes "plant" ∷ []) (codes "sections") only.1.0 refl)
 check_only parts v found (AreFiles.cascade_loops ps w name later plant f e p) c only = absurd (cc)
 
-check_read : (parts : List PartView) (v : Values) (found : JobFiles) (name : List ℕ) → IsCheckOf parts v found name → check_in parts name ≡ Ok (checks found name)
-check_read parts v found name h =
+check_read : (parts : List PartView) (v : Values) (found : JobFiles) (name : List ℕ) (worded : Bool) → IsCheckOf parts v found name worded → check_in parts name ≡ Ok (checks found name worded)
+check_read parts v found name worded h =
     let files = check_only parts v found h.are_files h.checked h.file_options in
     let only : HasOnly parts [] all_job_options = (
       unless parts (codes "state-space") false files.0,
@@ -110,12 +116,12 @@ check_read parts v found name h =
         only_append parts [] all_task_options (codes "certificate" ∷ all_design_options) h.no_task (unless parts (codes "certificate") false h.no_certificate, h.no_design),
       ),
     ) in
-    rw (first_by_only parts [] all_job_options only, checked_read parts v found h.are_files h.checked h.file_options) refl
+    rw (first_by_only parts [] all_job_options only, checked_read parts v found h.are_files h.checked h.file_options) (rw h.words refl)
 
 generation_read : (parts : List PartView) (v : Values) (seed count : ℕ) → IsGenerationOf parts v seed count → generation_in parts v.controllers seed ≡ Ok (generates seed count)
 generation_read parts v seed count h =
     let files = h.no_files in
-    let before : HasOnly parts [] (codes "check" ∷ codes "plant" ∷ []) = (unless parts (codes "check") false h.no_check, (files.1.1.0, tt)) in
+    let before : HasOnly parts [] (codes "check" ∷ codes "plant" ∷ codes "words" ∷ []) = (unless parts (codes "check") false h.no_check, (files.1.1.0, (unless parts (codes "words") false h.no_words, tt))) in
     let only : HasOnly parts [] all_job_options = (
       files.0,
       (
@@ -123,12 +129,12 @@ generation_read parts v seed count h =
         only_append parts [] all_task_options (codes "certificate" ∷ all_design_options) h.no_task (unless parts (codes "certificate") false h.no_certificate, h.no_design),
       ),
     ) in
-    rw (h.no_file, first_by_only parts [] (codes "check" ∷ codes "plant" ∷ []) before, first_by_only parts [] all_job_options only) (rw (sym h.number) refl)
+    rw (h.no_file, first_by_only parts [] (codes "check" ∷ codes "plant" ∷ codes "words" ∷ []) before, first_by_only parts [] all_job_options only) (rw (sym h.number) refl)
 
 parts_read : (parts : List PartView) (v : Values) (request : Request) → AreValues parts v → IsRequestOf parts v request → request_by parts v v.seed v.controllers (value_of (codes "check") parts) ≡ Ok request
 parts_read parts v (does job) values h =
     rw (no_seed parts v values h.no_seed, no_count parts v values h.no_count, no_value parts (codes "check") h.no_check) (ap done (job_read parts v job values h))
-parts_read parts v (checks found name) values h = rw (no_seed parts v values h.no_seed, no_count parts v values h.no_count, h.given) (check_read parts v found name h)
+parts_read parts v (checks found name worded) values h = rw (no_seed parts v values h.no_seed, no_count parts v values h.no_count, h.given) (check_read parts v found name worded h)
 parts_read parts v (generates seed count) values h = rw h.given (generation_read parts v seed count h)
 
 pub line_read : (arguments : List (List ℕ)) (request : Request) → IsRequestLine arguments request → asked_of arguments ≡ Ok request
@@ -159,6 +165,7 @@ record JobChecked (parts : List PartView) (v : Values) (t : Task) : Type 0 where
   pub states : check_states parts (kind_in parts) ≡ Ok tt
   pub cell : has_cell (kind_in parts) t ≡ true
   pub certificate : is_given parts (codes "certificate") ≡ true → may_certify (kind_in parts) t ≡ true
+  pub words : is_given parts (codes "words") ≡ true → may_word (is_given parts (codes "certificate")) t ≡ true
   pub whole : IsWhole parts v (kind_in parts) t
 
 job_checks : (parts : List PartView) (v : Values) (t : Task) → check_job parts t v.design.realisation ≡ Ok tt → JobChecked parts v t
@@ -168,12 +175,14 @@ job_checks parts v t h =
     let b = passed (check_states parts (kind_in parts)) _ tt a.second in
     let c = passed (check_cell (kind_in parts) t) _ tt b.second in
     let d = passed (check_certificate (is_given parts (codes "certificate")) (kind_in parts) t) _ tt c.second in
-    let e = passed (check_realisation t v.design.realisation) _ tt d.second in
+    let w = passed (check_words (is_given parts (codes "words")) (is_given parts (codes "certificate")) t) _ tt d.second in
+    let e = passed (check_realisation t v.design.realisation) _ tt w.second in
     record {
       only = only_by_first parts (task_options t) all_task_options (none_given (task_part t) other a.first);
       states = b.first;
       cell = cell_by (has_cell (kind_in parts) t) (is_incomplete (kind_in parts) t) _ c.first (lacks parts (kind_in parts) t e.second);
       certificate = certificate_by (is_given parts (codes "certificate")) (may_certify (kind_in parts) t) _ d.first;
+      words = certificate_by (is_given parts (codes "words")) (may_word (is_given parts (codes "certificate")) t) _ w.first;
       whole = record { realisation = e.first; whole = e.second };
     }
 
@@ -190,7 +199,7 @@ job_found parts v job typed values alone h =
     let c = passed (files_in parts v) _ job b.second in
     let k = job_checks parts v a.value b.first in
     let f = files_found parts v c.value typed values k.states c.first in
-    let same : record { files = c.value; task = a.value; design = v.design; certified = is_given parts (codes "certificate") } ≡ job = let e = c.second in cc in
+    let same : record { files = c.value; task = a.value; design = v.design; certified = is_given parts (codes "certificate"); worded = is_given parts (codes "words") } ≡ job = let e = c.second in cc in
     subst (IsJobOf parts v) same (record {
       files = f.files;
       task = task_found parts v a.value (kind_in parts) k.whole a.first;
@@ -198,6 +207,8 @@ job_found parts v job typed values alone h =
       design = refl;
       certified = refl;
       certificate = subst (λ (x : Kind). is_given parts (codes "certificate") ≡ true → may_certify x a.value ≡ true) f.kind k.certificate;
+      worded = refl;
+      words = k.words;
       file_options = f.file_only;
       task_options = k.only;
       design_options = f.design_only;
@@ -242,15 +253,16 @@ check_found : (parts : List PartView) (v : Values) (name : List ℕ) (request : 
     → value_of (codes "check") parts ≡ Some name → check_in parts name ≡ Ok request → IsRequestOf parts v request
 check_found parts v name request typed values s c k h =
     let a = passed (unless_given (flag (codes "check")) (first_other parts [] all_job_options)) _ request h in
-    let b = passed (checked_files (value_of (codes "plant") parts) (file_of parts)) (λ files. Ok (checks files name)) request a.second in
+    let b = passed (checked_files (value_of (codes "plant") parts) (file_of parts)) (λ files. Ok (checks files name (is_given parts (codes "words")))) request a.second in
     let only = only_by_first parts [] all_job_options (none_given (flag (codes "check")) (first_other parts [] all_job_options) a.first) in
     let rest = only_after parts [] all_task_options (codes "certificate" ∷ all_design_options) only.1.1 in
     let f = checked_by parts v b.value (value_of (codes "plant") parts) (file_of parts) typed (off parts [] (codes "state-space") only.0 refl) (off parts [] (codes "sections") only.1.0 refl) refl refl b.first in
-    let same : checks b.value name ≡ request = let e = b.second in cc in
+    let same : checks b.value name (is_given parts (codes "words")) ≡ request = let e = b.second in cc in
     subst (IsRequestOf parts v) same (record {
       given = k;
       are_files = f.are_files;
       checked = f.checked;
+      words = refl;
       file_options = f.only;
       no_task = only_before parts [] all_task_options (codes "certificate" ∷ all_design_options) only.1.1;
       no_design = rest.1;
@@ -262,9 +274,9 @@ check_found parts v name request typed values s c k h =
 generation_found : (parts : List PartView) (v : Values) (seed : ℕ) (request : Request) → v.seed ≡ Some seed → generation_in parts v.controllers seed ≡ Ok request → IsRequestOf parts v request
 generation_found parts v seed request s h =
     let a = passed (unless_file (flag (codes "generate")) (file_of parts)) _ request h in
-    let b = passed (unless_given (flag (codes "generate")) (first_other parts [] (codes "check" ∷ codes "plant" ∷ []))) _ request a.second in
+    let b = passed (unless_given (flag (codes "generate")) (first_other parts [] (codes "check" ∷ codes "plant" ∷ codes "words" ∷ []))) _ request a.second in
     let c = passed (unless_given (flag (codes "generate")) (first_other parts [] all_job_options)) _ request b.second in
-    let before = only_by_first parts [] (codes "check" ∷ codes "plant" ∷ []) (none_given (flag (codes "generate")) (first_other parts [] (codes "check" ∷ codes "plant" ∷ [])) b.first) in
+    let before = only_by_first parts [] (codes "check" ∷ codes "plant" ∷ codes "words" ∷ []) (none_given (flag (codes "generate")) (first_other parts [] (codes "check" ∷ codes "plant" ∷ codes "words" ∷ [])) b.first) in
     let only = only_by_first parts [] all_job_options (none_given (flag (codes "generate")) (first_other parts [] all_job_options) c.first) in
     let rest = only_after parts [] all_task_options (codes "certificate" ∷ all_design_options) only.1.1 in
     let same : generates seed (unwrap_or v.controllers default_controllers) ≡ request = let e = c.second in cc in
@@ -274,6 +286,7 @@ generation_found parts v seed request s h =
       no_file = no_file (flag (codes "generate")) (file_of parts) a.first;
       no_check = off parts [] (codes "check") before.0 refl;
       no_certificate = off parts [] (codes "certificate") rest.0 refl;
+      no_words = off parts [] (codes "words") before.1.1.0 refl;
       no_files = (only.0, (only.1.0, (before.1.0, tt)));
       no_task = only_before parts [] all_task_options (codes "certificate" ∷ all_design_options) only.1.1;
       no_design = rest.1;
@@ -321,7 +334,7 @@ line_found arguments request h = read_by arguments request (parts_of command_opt
 -- ---- what is read stands in the table
 request_in_table : (parts : List PartView) (v : Values) (request : Request) → IsRequestOf parts v request → IsInTable request
 request_in_table parts v (does job) h = h.cell
-request_in_table parts v (checks files name) h = h.checked
+request_in_table parts v (checks files name worded) h = h.checked
 request_in_table parts v (generates seed count) h = tt
 
 pub line_in_table : (arguments : List (List ℕ)) (request : Request) → IsRequestLine arguments request → IsInTable request
@@ -329,7 +342,7 @@ line_in_table arguments request h = request_in_table h.parts h.values request h.
 
 request_certifiable : (parts : List PartView) (v : Values) (request : Request) → IsRequestOf parts v request → IsCertifiable request
 request_certifiable parts v (does job) h = h.certificate
-request_certifiable parts v (checks files name) h = tt
+request_certifiable parts v (checks files name worded) h = tt
 request_certifiable parts v (generates seed count) h = tt
 
 pub line_certifiable : (arguments : List (List ℕ)) (request : Request) → IsRequestLine arguments request → IsCertifiable request

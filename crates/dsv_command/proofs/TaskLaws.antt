@@ -1,5 +1,5 @@
 -- The task of parts, by the rules and as it is found.
-use Rattle.std.proofs.Common.{◌≡◌, ℕ, ℤ, Bool, true, false, List, Option, Some, None, Ok, refl, sym, ap, subst, ◌∙◌}
+use Rattle.std.proofs.Common.{◌≡◌, ℕ, ℤ, Bool, true, false, List, Option, Some, None, Ok, Err, refl, sym, ap, subst, ◌∙◌}
 use Rattle.std.specs.Prelude.{codes, if◌then◌else◌}
 use Rattle.std.specs.List.{list_any}
 use Rattle.std.specs.Str.{bytes_eq}
@@ -10,10 +10,11 @@ use Rattle.dsv_names.specs.declared.property.Property.TheVariants.{OfRuns, OfRoo
 use Rattle.dsv_names.specs.declared.realisation.Realisation.{Realisation}
 use Rattle.dsv_names.specs.declared.realisation.Realisation.TheVariants.{Dfi}
 use Rattle.dsv_command.specs.declared.kind.Kind.{Kind}
-use Rattle.dsv_command.specs.Finding.{task_if, is_stability, is_overflow, formula_task, plain_task, run_task, flag_task, ellipsoid_task, form_task, task_by, task_in, check_realisation, check_whole}
+use Rattle.dsv_command.specs.Finding.{task_if, is_stability, is_overflow, formula_task, plain_task, run_task, flag_task, ellipsoid_task, form_task, words_task, task_by, task_in, check_realisation, check_whole}
 use Rattle.dsv_command.specs.Parts.{PartView, is_given, value_of}
+use Rattle.dsv_command.specs.Reasons.{no_task}
 use Rattle.dsv_command.specs.Rules.{AreInputs, IsGivenAs, AreValues, HasOnly, IsTask}
-use Rattle.dsv_command.specs.Table.{Task, decides, checks_time, writes, searches, seeks_set, measures_gain, simulates, checks_form, seeks_form, checks_ellipsoid, seeks_ellipsoid, task_options, all_task_options}
+use Rattle.dsv_command.specs.Table.{Task, decides, checks_time, writes, searches, seeks_set, measures_gain, simulates, runs_file, tells_words, checks_form, seeks_form, checks_ellipsoid, seeks_ellipsoid, task_options, all_task_options}
 use Rattle.dsv_command.specs.Values.{Values}
 use Rattle.dsv_command.proofs.OnlyLaws.{off, no_value}
 
@@ -29,6 +30,7 @@ pub record Others (parts : List PartView) (own : List (List ℕ)) : Type 0 where
   pub gain : list_any (bytes_eq (codes "gain")) own ≡ false → is_given parts (codes "gain") ≡ false
   pub unbounded : list_any (bytes_eq (codes "unbounded")) own ≡ false → is_given parts (codes "unbounded") ≡ false
   pub formula : list_any (bytes_eq (codes "formula")) own ≡ false → is_given parts (codes "formula") ≡ false
+  pub inputs : list_any (bytes_eq (codes "inputs")) own ≡ false → is_given parts (codes "inputs") ≡ false
 
 pub others : (parts : List PartView) (own : List (List ℕ)) → HasOnly parts own all_task_options → Others parts own
 others parts own h = record {
@@ -40,6 +42,7 @@ others parts own h = record {
   gain = off parts own (codes "gain") h.1.1.1.1.1.1.0;
   unbounded = off parts own (codes "unbounded") h.1.1.1.1.1.1.1.0;
   formula = off parts own (codes "formula") h.1.1.1.1.1.1.1.1.0;
+  inputs = off parts own (codes "inputs") h.1.1.1.1.1.1.1.1.1.1.1.1.0;
 }
 
 pub none_as : {A : Type 0} (Is : List ℕ → A → Type 0) (text : Option (List ℕ)) (value : Option A) → IsGivenAs Is text value → text ≡ None → value ≡ None
@@ -95,6 +98,12 @@ task_read parts v t h (IsTask.gain ps w e g) only =
     run_read ps w (task_options t) (OfRuns Overflow) measures_gain h e o refl refl refl refl refl (rw g refl)
 task_read parts v t h (IsTask.simulation ps w inputs e) only =
     rw (no_property ps w h (off ps (task_options t) (codes "property") only.0 refl), e) refl
+task_read parts v t h (IsTask.file_run ps w name e) only =
+    let o = others ps (task_options t) only in
+    rw (no_property ps w h (off ps (task_options t) (codes "property") only.0 refl), no_inputs ps w h (o.simulate refl), e) refl
+task_read parts v t h (IsTask.words_alone ps w e) only =
+    let o = others ps (task_options t) only in
+    rw (no_property ps w h (off ps (task_options t) (codes "property") only.0 refl), no_inputs ps w h (o.simulate refl), no_value ps (codes "inputs") (o.inputs refl), e) refl
 task_read parts v t h (IsTask.named_form ps w name e f) only =
     let o = others ps (task_options t) only in
     rw (e, no_inputs ps w h (o.simulate refl), f) refl
@@ -192,12 +201,21 @@ form_by parts v p t kind (Some name) e w k h =
     subst (IsTask parts v) i.1 (IsTask.named_form parts v name (e ∙ ap Some (stability_is p i.0)) k)
 form_by parts v p t kind None e w k h = ellipsoid_by parts v p t kind (value_of (codes "ellipsoid") parts) e w refl h
 
+alone_by : (parts : List PartView) (v : Values) (t : Task) (words : Bool) → is_given parts (codes "words") ≡ words
+    → (if words then Ok tells_words else Err no_task) ≡ Ok t → IsTask parts v t
+alone_by parts v t true e h = let same : tells_words ≡ t = cc in subst (IsTask parts v) same (IsTask.words_alone parts v e)
+alone_by parts v t false e h = absurd (cc)
+
+words_by : (parts : List PartView) (v : Values) (t : Task) (named : Option (List ℕ)) → value_of (codes "inputs") parts ≡ named → words_task parts named ≡ Ok t → IsTask parts v t
+words_by parts v t (Some name) e h = let same : runs_file name (is_given parts (codes "outputs")) ≡ t = cc in subst (IsTask parts v) same (IsTask.file_run parts v name e)
+words_by parts v t None e h = alone_by parts v t (is_given parts (codes "words")) refl h
+
 given_by : (parts : List PartView) (v : Values) (t : Task) (kind : Kind) (property : Option Property) (inputs : Option (List ℤ)) → v.property ≡ property → v.inputs ≡ inputs
     → IsWhole parts v kind t → task_by parts v.numbers property inputs ≡ Ok t → IsTask parts v t
 given_by parts v t kind (Some p) (Some xs) e f w h = absurd (cc)
 given_by parts v t kind (Some p) None e f w h = form_by parts v p t kind (value_of (codes "form") parts) e w refl h
-given_by parts v t kind None (Some xs) e f w h = let same : simulates xs ≡ t = cc in subst (IsTask parts v) same (IsTask.simulation parts v xs f)
-given_by parts v t kind None None e f w h = absurd (cc)
+given_by parts v t kind None (Some xs) e f w h = let same : simulates xs (is_given parts (codes "outputs")) ≡ t = cc in subst (IsTask parts v) same (IsTask.simulation parts v xs f)
+given_by parts v t kind None None e f w h = words_by parts v t (value_of (codes "inputs") parts) refl h
 
 pub task_found : (parts : List PartView) (v : Values) (t : Task) (kind : Kind) → IsWhole parts v kind t → task_in parts v ≡ Ok t → IsTask parts v t
 task_found parts v t kind w h = given_by parts v t kind v.property v.inputs refl refl w h

@@ -23,6 +23,7 @@ use Rattle.dsv_command.specs.declared.kind.Kind.TheVariants as of_kind
 use Rattle.dsv_command.specs.Table.{JobFiles, controller, cascade, states, plant_loop}
 use Rattle.dsv_command.specs.Table.{cascade_loop, Task, decides, checks_time, writes, searches}
 use Rattle.dsv_command.specs.Table.{seeks_set, measures_gain, simulates, checks_form, seeks_form}
+use Rattle.dsv_command.specs.Table.{runs_file, tells_words, may_word}
 use Rattle.dsv_command.specs.Table.{checks_ellipsoid, seeks_ellipsoid, Job, Request, does, checks}
 use Rattle.dsv_command.specs.Table.{generates, has_cell, may_certify, task_options}
 use Rattle.dsv_command.specs.Table.{all_task_options, all_design_options}
@@ -107,15 +108,21 @@ form_task parts numbers property (Some name) =
 form_task parts numbers property None =
     ellipsoid_task parts numbers property (value_of (codes "ellipsoid") parts)
 
--- either a property or inputs are given
+-- inputs in a file that is named, or else the words alone
+abbrev pub words_task : List PartView → Option (List ℕ) → Result Task Reason
+words_task parts (Some name) = Ok (runs_file name (is_given parts (codes "outputs")))
+words_task parts None = if is_given parts (codes "words") then Ok tells_words else Err no_task
+
+-- either a property or inputs are given, or else one of those
 abbrev pub task_by : List PartView → Numbers → Option Property → Option (List ℤ)
     → Result Task Reason
 task_by parts numbers (Some property) (Some inputs) =
     Err (apart (flag (codes "simulate")) (flag (codes "property")))
 task_by parts numbers (Some property) None =
     form_task parts numbers property (value_of (codes "form") parts)
-task_by parts numbers None (Some inputs) = Ok (simulates inputs)
-task_by parts numbers None None = Err no_task
+task_by parts numbers None (Some inputs) =
+    Ok (simulates inputs (is_given parts (codes "outputs")))
+task_by parts numbers None None = words_task parts (value_of (codes "inputs") parts)
 
 abbrev pub task_in : List PartView → Values → Result Task Reason
 task_in parts values = task_by parts values.numbers values.property values.inputs
@@ -128,7 +135,9 @@ task_part (writes property samples) = flag (codes "formula")
 task_part (searches property samples conflicts) = property_part (OfRuns property)
 task_part (seeks_set conflicts) = flag (codes "unbounded")
 task_part measures_gain = flag (codes "gain")
-task_part (simulates inputs) = flag (codes "simulate")
+task_part (simulates inputs outputs) = flag (codes "simulate")
+task_part (runs_file name outputs) = flag (codes "inputs")
+task_part tells_words = flag (codes "words")
 task_part (checks_form name) = flag (codes "form")
 task_part seeks_form = flag (codes "lyapunov")
 task_part (checks_ellipsoid name) = flag (codes "ellipsoid")
@@ -190,6 +199,17 @@ abbrev pub check_certificate : Bool → Kind → Task → Result (Unit {0}) Reas
 check_certificate certified kind task = if certified && not (may_certify kind task)
     then Err (apart (certificate_part kind task) (flag (codes "certificate"))) else Ok tt
 
+-- what the words don't go with: a certificate, outputs alone, or the task
+abbrev pub words_part : Bool → Task → PartView
+words_part true task = flag (codes "certificate")
+words_part false (simulates inputs outputs) = flag (codes "outputs")
+words_part false (runs_file name outputs) = flag (codes "outputs")
+words_part false task = task_part task
+
+abbrev pub check_words : Bool → Bool → Task → Result (Unit {0}) Reason
+check_words worded certified task = if worded && not (may_word certified task)
+    then Err (apart (words_part certified task) (flag (codes "words"))) else Ok tt
+
 -- ellipsoids are found in direct form I
 abbrev pub check_realisation : Task → Realisation → Result (Unit {0}) Reason
 check_realisation seeks_ellipsoid Dfi = Ok tt
@@ -236,6 +256,8 @@ check_job parts task realisation =
     check_states parts (kind_in parts) >>= λ u.
     check_cell (kind_in parts) task >>= λ u.
     check_certificate (is_given parts (codes "certificate")) (kind_in parts) task >>= λ u.
+    check_words (is_given parts (codes "words")) (is_given parts (codes "certificate")) task
+    >>= λ u.
     check_realisation task realisation >>= λ u.
     check_whole parts (kind_in parts) task
 
@@ -249,6 +271,7 @@ job_in parts values =
       task = task;
       design = values.design;
       certified = is_given parts (codes "certificate");
+      worded = is_given parts (codes "words");
     })
 
 -- the options that neither a check nor a generation has
@@ -266,13 +289,13 @@ abbrev pub check_in : List PartView → List ℕ → Result Request Reason
 check_in parts name =
     unless_given (flag (codes "check")) (first_other parts [] all_job_options) >>= λ u.
     checked_files (value_of (codes "plant") parts) (file_of parts) >>= λ files.
-    Ok (checks files name)
+    Ok (checks files name (is_given parts (codes "words")))
 
 abbrev pub generation_in : List PartView → Option ℕ → ℕ → Result Request Reason
 generation_in parts controllers seed =
     unless_file (flag (codes "generate")) (file_of parts) >>= λ u.
     unless_given (flag (codes "generate"))
-    (first_other parts [] (codes "check" ∷ codes "plant" ∷ [])) >>= λ u.
+    (first_other parts [] (codes "check" ∷ codes "plant" ∷ codes "words" ∷ [])) >>= λ u.
     unless_given (flag (codes "generate")) (first_other parts [] all_job_options) >>= λ u.
     Ok (generates seed (unwrap_or controllers default_controllers))
 

@@ -25,4 +25,7 @@ command_options =
     (codes "rounding", true) ∷
     (codes "overflow-mode", true) ∷
     (codes "generate", true) ∷
-    (codes "count", true) ∷ []
+    (codes "count", true) ∷
+    (codes "words", false) ∷
+    (codes "inputs", true) ∷
+    (codes "outputs", false) ∷ []

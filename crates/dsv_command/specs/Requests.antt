@@ -30,7 +30,7 @@ reason_of (first ∷ rest) = if bytes_eq first why_word then reason_in (asked_of
 -- the table has such a request: a task of what is asked about, or the check of its certificate
 abbrev pub IsInTable : Request → Type 0
 IsInTable (does job) = has_cell (kind_of job.files) job.task ≡ true
-IsInTable (checks files name) = is_checked (kind_of files) ≡ true
+IsInTable (checks files name worded) = is_checked (kind_of files) ≡ true
 IsInTable (generates seed count) = Unit {0}
 
 -- a certificate is asked for of what has one

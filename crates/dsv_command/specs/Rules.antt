@@ -34,6 +34,7 @@ use Rattle.dsv_command.specs.Shapes.{dash, is_equals}
 use Rattle.dsv_command.specs.Table.{JobFiles, controller, cascade, states, plant_loop}
 use Rattle.dsv_command.specs.Table.{cascade_loop, Task, decides, checks_time, writes, searches}
 use Rattle.dsv_command.specs.Table.{seeks_set, measures_gain, simulates, checks_form, seeks_form}
+use Rattle.dsv_command.specs.Table.{runs_file, tells_words, may_word}
 use Rattle.dsv_command.specs.Table.{checks_ellipsoid, seeks_ellipsoid, Job, Request, does, checks}
 use Rattle.dsv_command.specs.Table.{generates, kind_of, has_cell, may_certify, is_checked}
 use Rattle.dsv_command.specs.Table.{task_options, all_task_options, file_options}
@@ -239,7 +240,13 @@ pub data IsTask : List PartView → Values → Task → Type 0 where
   gain : (parts : List PartView) (values : Values) → values.property ≡ Some (OfRuns Overflow)
       → is_given parts (codes "gain") ≡ true → IsTask parts values measures_gain
   simulation : (parts : List PartView) (values : Values) (inputs : List ℤ)
-      → values.inputs ≡ Some inputs → IsTask parts values (simulates inputs)
+      → values.inputs ≡ Some inputs
+      → IsTask parts values (simulates inputs (is_given parts (codes "outputs")))
+  file_run : (parts : List PartView) (values : Values) (name : List ℕ)
+      → value_of (codes "inputs") parts ≡ Some name
+      → IsTask parts values (runs_file name (is_given parts (codes "outputs")))
+  words_alone : (parts : List PartView) (values : Values) → is_given parts (codes "words") ≡ true
+      → IsTask parts values tells_words
   named_form : (parts : List PartView) (values : Values) (name : List ℕ)
       → values.property ≡ Some (OfRoots Stability) → value_of (codes "form") parts ≡ Some name
       → IsTask parts values (checks_form name)
@@ -256,7 +263,8 @@ pub data IsTask : List PartView → Values → Task → Type 0 where
       → IsTask parts values seeks_ellipsoid
 
 -- The job of these parts: there is such a task of what is asked about; no option is given that
--- either doesn't have; and a certificate is to be written only where one may be.
+-- either doesn't have; a certificate is to be written only where one may be, and words are told
+-- only in reports that may tell them.
 pub record IsJobOf (parts : List PartView) (values : Values) (job : Job) : Type 0 where
   pub files : AreFiles parts values job.files
   pub task : IsTask parts values job.task
@@ -264,6 +272,8 @@ pub record IsJobOf (parts : List PartView) (values : Values) (job : Job) : Type 
   pub design : job.design ≡ values.design
   pub certified : job.certified ≡ is_given parts (codes "certificate")
   pub certificate : job.certified ≡ true → may_certify (kind_of job.files) job.task ≡ true
+  pub worded : job.worded ≡ is_given parts (codes "words")
+  pub words : job.worded ≡ true → may_word job.certified job.task ≡ true
   pub file_options : HasOnly parts (file_options job.files) all_file_options
   pub task_options : HasOnly parts (task_options job.task) all_task_options
   pub design_options : HasOnly parts (design_options (kind_of job.files)) all_design_options
@@ -273,10 +283,11 @@ pub record IsJobOf (parts : List PartView) (values : Values) (job : Job) : Type 
 
 -- The check of a certificate of a controller, or of its loop with a plant.
 pub record IsCheckOf (parts : List PartView) (values : Values) (files : JobFiles)
-    (certificate : List ℕ) : Type 0 where
+    (certificate : List ℕ) (worded : Bool) : Type 0 where
   pub given : value_of (codes "check") parts ≡ Some certificate
   pub are_files : AreFiles parts values files
   pub checked : is_checked (kind_of files) ≡ true
+  pub words : worded ≡ is_given parts (codes "words")
   pub file_options : HasOnly parts (file_options files) all_file_options
   pub no_task : HasOnly parts [] all_task_options
   pub no_design : HasOnly parts [] all_design_options
@@ -293,6 +304,7 @@ pub record IsGenerationOf (parts : List PartView) (values : Values) (seed count 
   pub no_file : file_of parts ≡ None
   pub no_check : is_given parts (codes "check") ≡ false
   pub no_certificate : is_given parts (codes "certificate") ≡ false
+  pub no_words : is_given parts (codes "words") ≡ false
   pub no_files : HasOnly parts [] all_file_options
   pub no_task : HasOnly parts [] all_task_options
   pub no_design : HasOnly parts [] all_design_options
@@ -300,7 +312,8 @@ pub record IsGenerationOf (parts : List PartView) (values : Values) (seed count 
 -- what these parts ask for
 abbrev pub IsRequestOf : List PartView → Values → Request → Type 0
 IsRequestOf parts values (does job) = IsJobOf parts values job
-IsRequestOf parts values (checks files certificate) = IsCheckOf parts values files certificate
+IsRequestOf parts values (checks files certificate worded) =
+    IsCheckOf parts values files certificate worded
 IsRequestOf parts values (generates seed count) = IsGenerationOf parts values seed count
 
 -- what a command line asks for; no text in it is empty

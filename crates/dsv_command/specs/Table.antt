@@ -37,8 +37,12 @@ pub data Task : Type 0 where
   seeks_set : ℕ → Task
   -- it is decided by the gain whether any list of inputs, of any length, overflows
   measures_gain : Task
-  -- it is run over these inputs
-  simulates : List ℤ → Task
+  -- it is run over these inputs; the flag: its outputs alone are written
+  simulates : List ℤ → Bool → Task
+  -- so it is over the inputs in the file of this name
+  runs_file : List ℕ → Bool → Task
+  -- its words are told, and no more is asked
+  tells_words : Task
   -- it is decided whether its states fall by the form of the certificate in the file of this name
   checks_form : List ℕ → Task
   -- so it is by a form that is sought
@@ -49,19 +53,21 @@ pub data Task : Type 0 where
   -- one is to be found that shows it, and written as such a file
   seeks_ellipsoid : Task
 
--- a task for what is in files, realised by a design, and whether a certificate is to be written in
--- place of the report of a yes-answer
+-- a task for what is in files, realised by a design, whether a certificate is to be written in
+-- place of the report of a yes-answer, and whether the report tells its words
 pub record Job : Type 0 where
   pub files : JobFiles
   pub task : Task
   pub design : Design
   pub certified : Bool
+  pub worded : Bool
 
 -- what a list of arguments asks for
 pub data Request : Type 0 where
   does : Job → Request
-  -- the certificate in the file that is named last is checked against what is in these files
-  checks : JobFiles → List ℕ → Request
+  -- the certificate in the file that is named last is checked against what is in these files; the
+  -- flag: the report tells their words
+  checks : JobFiles → List ℕ → Bool → Request
   -- controllers of a seed are generated, so many, and what is found of them is counted
   generates : ℕ → ℕ → Request
 
@@ -82,18 +88,24 @@ has_cell of_kind.Controller _ = true
 has_cell of_kind.Cascade (decides Stability schur_cohn) = true
 has_cell of_kind.Cascade (searches Overflow samples conflicts) = true
 has_cell of_kind.Cascade measures_gain = true
-has_cell of_kind.Cascade (simulates inputs) = true
+has_cell of_kind.Cascade (simulates inputs outputs) = true
+has_cell of_kind.Cascade (runs_file name outputs) = true
+has_cell of_kind.Cascade tells_words = true
 has_cell of_kind.Cascade _ = false
 has_cell of_kind.States (decides Stability true) = true
 has_cell of_kind.States (checks_form name) = true
 has_cell of_kind.States seeks_form = true
 has_cell of_kind.States (searches property samples conflicts) = true
 has_cell of_kind.States measures_gain = true
-has_cell of_kind.States (simulates inputs) = true
+has_cell of_kind.States (simulates inputs outputs) = true
+has_cell of_kind.States (runs_file name outputs) = true
+has_cell of_kind.States tells_words = true
 has_cell of_kind.States _ = false
 has_cell of_kind.Loop (decides Stability schur_cohn) = true
+has_cell of_kind.Loop tells_words = true
 has_cell of_kind.Loop _ = false
 has_cell of_kind.CascadeLoop (decides Stability schur_cohn) = true
+has_cell of_kind.CascadeLoop tells_words = true
 has_cell of_kind.CascadeLoop _ = false
 
 -- of which a certificate may be written
@@ -105,6 +117,16 @@ may_certify of_kind.Controller measures_gain = true
 may_certify of_kind.States seeks_form = true
 may_certify of_kind.Loop (decides property schur_cohn) = true
 may_certify _ _ = false
+
+-- whose report tells its words if that is asked for: that of no certificate, and of no task that
+-- writes a text of its own
+abbrev pub may_word : Bool → Task → Bool
+may_word true task = false
+may_word false (writes property samples) = false
+may_word false (simulates inputs true) = false
+may_word false (runs_file name true) = false
+may_word false seeks_ellipsoid = false
+may_word false task = true
 
 -- whose certificates are checked
 abbrev pub is_checked : Kind → Bool
@@ -122,7 +144,9 @@ task_options (searches property samples conflicts) =
     codes "property" ∷ codes "x-size" ∷ codes "conflicts" ∷ []
 task_options (seeks_set conflicts) = codes "property" ∷ codes "unbounded" ∷ codes "conflicts" ∷ []
 task_options measures_gain = codes "property" ∷ codes "gain" ∷ []
-task_options (simulates inputs) = codes "simulate" ∷ []
+task_options (simulates inputs outputs) = codes "simulate" ∷ codes "outputs" ∷ []
+task_options (runs_file name outputs) = codes "inputs" ∷ codes "outputs" ∷ []
+task_options tells_words = []
 task_options (checks_form name) = codes "property" ∷ codes "form" ∷ []
 task_options seeks_form = codes "property" ∷ codes "lyapunov" ∷ []
 task_options (checks_ellipsoid name) =
@@ -133,7 +157,8 @@ task_options seeks_ellipsoid = codes "property" ∷ codes "offer-ellipsoid" ∷ 
 abbrev pub all_task_options : List (List ℕ)
 all_task_options = codes "property" ∷ codes "simulate" ∷ codes "form" ∷ codes "lyapunov"
     ∷ codes "ellipsoid" ∷ codes "offer-ellipsoid" ∷ codes "gain" ∷ codes "unbounded"
-    ∷ codes "formula" ∷ codes "x-size" ∷ codes "conflicts" ∷ codes "schur-cohn" ∷ []
+    ∷ codes "formula" ∷ codes "x-size" ∷ codes "conflicts" ∷ codes "schur-cohn"
+    ∷ codes "inputs" ∷ codes "outputs" ∷ []
 
 -- the options that name files beside FILE: those of what is asked about, and all
 abbrev pub file_options : JobFiles → List (List ℕ)

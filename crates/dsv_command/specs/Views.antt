@@ -108,7 +108,9 @@ task_view (of_task.Search question budget) =
     table.searches question.property question.samples budget.conflicts
 task_view (of_task.SeekSet budget) = table.seeks_set budget.conflicts
 task_view of_task.MeasureGain = table.measures_gain
-task_view (of_task.Simulate inputs) = table.simulates inputs.items
+task_view (of_task.Simulate inputs outputs) = table.simulates inputs.items outputs
+task_view (of_task.RunFile name outputs) = table.runs_file name.now outputs
+task_view of_task.TellWords = table.tells_words
 task_view (of_task.CheckForm name) = table.checks_form name.now
 task_view of_task.SeekForm = table.seeks_form
 task_view (of_task.CheckEllipsoid name) = table.checks_ellipsoid name.now
@@ -120,12 +122,13 @@ job_view job = record {
   task = task_view job.task;
   design = job.design;
   certified = job.certified;
+  worded = job.worded;
 }
 
 abbrev pub request_view : Request → table.Request
 request_view (of_request.Do job) = table.does (job_view job)
-request_view (of_request.Check files certificate) =
-    table.checks (files_view files) certificate.now
+request_view (of_request.Check files certificate worded) =
+    table.checks (files_view files) certificate.now worded
 request_view (of_request.Generate g) = table.generates g.seed g.count
 
 -- what a line asks for, and the reason that it asks for

@@ -8,6 +8,7 @@ ghost use Rattle.dsv_command.specs.Parts.{value_of, file_of};
 ghost use Rattle.dsv_command.specs.Finding.{check_cell, check_cell_whole};
 ghost use Rattle.dsv_command.specs.Finding.{check_certificate, check_in, check_job};
 ghost use Rattle.dsv_command.specs.Finding.{check_realisation, check_states, check_whole};
+ghost use Rattle.dsv_command.specs.Finding.{check_words, words_part, words_task};
 ghost use Rattle.dsv_command.specs.Finding.{checked_files, files_by};
 ghost use Rattle.dsv_command.specs.Finding.{first_other, flag_task, form_task, formula_task};
 ghost use Rattle.dsv_command.specs.Finding.{generation_in, is_incomplete, is_overflow};
@@ -30,7 +31,7 @@ use crate::reasons::Reason;
 use crate::section_names::SectionNames;
 use crate::table::{
     Job, JobFiles, Request, Task, all_job_options, all_task_options, has_cell, may_certify,
-    task_options,
+    may_word, task_options,
 };
 use crate::values::{Numbers, Values, find_values};
 use dsv_names::{Named, Property, Realisation, RootProperty, RunProperty};
@@ -233,7 +234,21 @@ fn property_task<'a>(
     }
 }
 
-/// The task that is given: a property's, or a run over inputs.
+/// The task of inputs in a file that is named, or else that of the words alone.
+fn words_task<'a>(arguments: &Arguments<'a>) -> Result<Task<'a>, Reason<'a>>
+    ensures { result_map_both task_view reason_view result
+        ≡ words_task arguments.now (value_of (codes "inputs") arguments.now) }
+{
+    if let Some(name) = arguments.value("inputs") {
+        Ok(Task::RunFile(name, arguments.is_given("outputs")))
+    } else if arguments.is_given("words") {
+        Ok(Task::TellWords)
+    } else {
+        Err(Reason::NoTask)
+    }
+}
+
+/// The task that is given: a property's, a run over inputs, or that the words are told.
 fn find_task<'a>(
     arguments: &Arguments<'a>,
     numbers: &Numbers,
@@ -247,8 +262,8 @@ fn find_task<'a>(
     match (property, inputs) {
         (Some(_), Some(_)) => Err(Reason::Apart(Part::Flag("simulate"), Part::Flag("property"))),
         (Some(property), None) => property_task(arguments, numbers, property),
-        (None, Some(inputs)) => Ok(Task::Simulate(inputs)),
-        (None, None) => Err(Reason::NoTask),
+        (None, Some(inputs)) => Ok(Task::Simulate(inputs, arguments.is_given("outputs"))),
+        (None, None) => words_task(arguments),
     }
 }
 
@@ -263,7 +278,9 @@ fn task_part<'a>(task: &Task) -> Part<'a>
         Task::Search(question, _) => property_part(Property::OfRuns(question.property)),
         Task::SeekSet(_) => Part::Flag("unbounded"),
         Task::MeasureGain => Part::Flag("gain"),
-        Task::Simulate(_) => Part::Flag("simulate"),
+        Task::Simulate(_, _) => Part::Flag("simulate"),
+        Task::RunFile(_, _) => Part::Flag("inputs"),
+        Task::TellWords => Part::Flag("words"),
         Task::CheckForm(_) => Part::Flag("form"),
         Task::SeekForm => Part::Flag("lyapunov"),
         Task::CheckEllipsoid(_) => Part::Flag("ellipsoid"),
@@ -359,6 +376,29 @@ fn check_certificate<'a>(certified: bool, kind: Kind, task: &Task) -> Result<(),
     Err(Reason::Apart(part, Part::Flag("certificate")))
 }
 
+/// What the words don't go with.
+fn words_part<'a>(certified: bool, task: &Task) -> Part<'a>
+    ensures { part_view result ≡ words_part certified (task_view task.now) }
+{
+    match task {
+        _ if certified => Part::Flag("certificate"),
+        Task::Simulate(_, _) | Task::RunFile(_, _) => Part::Flag("outputs"),
+        task => task_part(task),
+    }
+}
+
+/// Nothing, unless words are to be told in a report that may not tell them.
+fn check_words<'a>(worded: bool, certified: bool, task: &Task) -> Result<(), Reason<'a>>
+    ensures { result_map_both (λ u. u) reason_view result
+        ≡ check_words worded certified (task_view task.now) }
+{
+    if worded && !may_word(certified, task) {
+        Err(Reason::Apart(words_part(certified, task), Part::Flag("words")))
+    } else {
+        Ok(())
+    }
+}
+
 /// Nothing, unless an ellipsoid is to be found in another form than direct form I.
 fn check_realisation<'a>(task: &Task, realisation: Realisation) -> Result<(), Reason<'a>>
     ensures { result_map_both (λ u. u) reason_view result
@@ -446,7 +486,9 @@ fn check_job<'a>(
     unless_given(task_part(task), other)?;
     check_states(arguments, kind)?;
     check_cell(kind, task)?;
-    check_certificate(arguments.is_given("certificate"), kind, task)?;
+    let certified = arguments.is_given("certificate");
+    check_certificate(certified, kind, task)?;
+    check_words(arguments.is_given("words"), certified, task)?;
     check_realisation(task, realisation)?;
     check_whole(arguments, kind, task)
 }
@@ -472,6 +514,7 @@ fn find_job<'a>(arguments: &Arguments<'a>, values: Values<'a>) -> Result<Job<'a>
         task,
         design,
         certified: arguments.is_given("certificate"),
+        worded: arguments.is_given("words"),
     })
 }
 
@@ -500,7 +543,11 @@ fn find_check<'a>(
     let other = first_other(arguments, &[], all_job_options());
     unless_given(Part::Flag("check"), other)?;
     let files = checked_files(arguments)?;
-    Ok(Request::Check { files, certificate })
+    Ok(Request::Check {
+        files,
+        certificate,
+        worded: arguments.is_given("words"),
+    })
 }
 
 /// How many controllers are generated.
@@ -527,7 +574,10 @@ fn find_generation<'a>(
 {
     let part = Part::Flag("generate");
     unless_file(part, arguments.file())?;
-    unless_given(part, first_other(arguments, &[], &["check", "plant"]))?;
+    unless_given(
+        part,
+        first_other(arguments, &[], &["check", "plant", "words"]),
+    )?;
     unless_given(part, first_other(arguments, &[], all_job_options()))?;
     let count = count_in(controllers).count;
     Ok(Request::Generate(Generation { seed, count }))

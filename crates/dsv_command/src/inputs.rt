@@ -27,10 +27,9 @@ fn with_sign(negative: bool, size: u64) -> i64
 
 /// The number of an optional `-` before 1 to 15 digits; `None` for any other text.
 #[tactic(auto, using(dsv_text::proofs::DigitLemmas::short_below_power))]
-fn find_input(text: &str) -> Option<i64>
+pub fn find_input(text: &[u8]) -> Option<i64>
     ensures { result ≡ input_of text.now }
 {
-    let text = text.as_bytes();
     let negative = has_byte(b'-', text);
     let size = short_number(MOST_DIGITS, &text[usize::from(negative)..])?;
     Some(with_sign(negative, size))
@@ -43,9 +42,9 @@ pub fn find_inputs(text: &str) -> Option<Inputs>
     let mut inputs = Inputs::new();
     let mut rest = text;
     while let Some((first, others)) = rest.split_once(',') {
-        inputs.try_push(find_input(first)?).ok()?;
+        inputs.try_push(find_input(first.as_bytes())?).ok()?;
         rest = others;
     }
-    inputs.try_push(find_input(rest)?).ok()?;
+    inputs.try_push(find_input(rest.as_bytes())?).ok()?;
     Some(inputs)
 }

@@ -20,7 +20,7 @@ mod table;
 mod values;
 
 pub use generation::Generation;
-pub use inputs::{Inputs, MOST_INPUTS};
+pub use inputs::{Inputs, MOST_INPUTS, find_input};
 pub use kind::Kind;
 pub use law::{faults_are_found, parts_are_read, requests_are_read};
 pub use limits::{MOST_CONFLICTS, MOST_CONTROLLERS, MOST_SAMPLES};

@@ -14,7 +14,7 @@ pub struct CommandOption {
 
 /// The options that the command has. One more stands here and in `specs/Options.antt`; what it asks
 /// for, in the job or the request.
-const OPTIONS: [CommandOption; 22] = [
+const OPTIONS: [CommandOption; 25] = [
     CommandOption {
         name: "property",
         takes_value: true,
@@ -102,6 +102,18 @@ const OPTIONS: [CommandOption; 22] = [
     CommandOption {
         name: "count",
         takes_value: true,
+    },
+    CommandOption {
+        name: "words",
+        takes_value: false,
+    },
+    CommandOption {
+        name: "inputs",
+        takes_value: true,
+    },
+    CommandOption {
+        name: "outputs",
+        takes_value: false,
     },
 ];
 

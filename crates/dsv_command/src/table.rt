@@ -1,7 +1,8 @@
 // What the command is asked for, and what goes with what.
 ghost use Rattle.std.specs.Prelude.{◌≡◌};
 ghost use Rattle.dsv_command.specs.Finding.{all_job_options};
-ghost use Rattle.dsv_command.specs.Table.{all_task_options, has_cell, may_certify, task_options};
+ghost use Rattle.dsv_command.specs.Table.{all_task_options, has_cell, may_certify, may_word};
+ghost use Rattle.dsv_command.specs.Table.{task_options};
 ghost use Rattle.dsv_command.specs.Views.{names_view, task_view};
 
 use crate::generation::Generation;
@@ -54,8 +55,13 @@ pub enum Task<'a> {
     SeekSet(Budget),
     /// It is decided by the gain whether any list of inputs, of any length, overflows.
     MeasureGain,
-    /// It is run over these inputs, from registers that are 0.
-    Simulate(Inputs),
+    /// It is run over these inputs, from registers that are 0; the flag: its outputs alone are
+    /// written.
+    Simulate(Inputs, bool),
+    /// So it is over the inputs in the file of this name.
+    RunFile(&'a str, bool),
+    /// Its words are told, and no more is asked.
+    TellWords,
     /// It is decided whether its states fall, by the form of the certificate in the file of this
     /// name.
     CheckForm(&'a str),
@@ -76,6 +82,8 @@ pub struct Job<'a> {
     pub design: Design,
     /// Whether a certificate is to be written in place of the report of a yes-answer.
     pub certified: bool,
+    /// Whether the report tells its words.
+    pub worded: bool,
 }
 
 /// What the command is asked for.
@@ -86,6 +94,8 @@ pub enum Request<'a> {
     Check {
         files: JobFiles<'a>,
         certificate: &'a str,
+        /// Whether the report tells their words.
+        worded: bool,
     },
     /// Controllers are generated, and what is found of them is counted.
     Generate(Generation),
@@ -117,7 +127,11 @@ pub(crate) fn has_cell(kind: Kind, task: &Task) -> bool
                 _,
             ),
         ) => true,
-        (Kind::Cascade | Kind::States, Task::MeasureGain | Task::Simulate(_)) => true,
+        (
+            Kind::Cascade | Kind::States,
+            Task::MeasureGain | Task::Simulate(_, _) | Task::RunFile(_, _),
+        ) => true,
+        (_, Task::TellWords) => true,
         (
             Kind::States,
             Task::Decide(
@@ -144,6 +158,18 @@ pub(crate) fn may_certify(kind: Kind, task: &Task) -> bool
     }
 }
 
+/// Whether a report of the task may tell its words, where a certificate is to be written or none.
+pub(crate) fn may_word(certified: bool, task: &Task) -> bool
+    ensures { result ≡ may_word certified (task_view task.now) }
+{
+    match task {
+        _ if certified => false,
+        Task::WriteFormula(_) | Task::SeekEllipsoid => false,
+        Task::Simulate(_, outputs) | Task::RunFile(_, outputs) => !*outputs,
+        _ => true,
+    }
+}
+
 /// The options that a task has.
 pub(crate) fn task_options(task: &Task) -> &'static [&'static str]
     ensures { names_view result.now ≡ task_options (task_view task.now) }
@@ -155,7 +181,9 @@ pub(crate) fn task_options(task: &Task) -> &'static [&'static str]
         Task::Search(_, _) => &["property", "x-size", "conflicts"],
         Task::SeekSet(_) => &["property", "unbounded", "conflicts"],
         Task::MeasureGain => &["property", "gain"],
-        Task::Simulate(_) => &["simulate"],
+        Task::Simulate(_, _) => &["simulate", "outputs"],
+        Task::RunFile(_, _) => &["inputs", "outputs"],
+        Task::TellWords => &[],
         Task::CheckForm(_) => &["property", "form"],
         Task::SeekForm => &["property", "lyapunov"],
         Task::CheckEllipsoid(_) => &["property", "unbounded", "ellipsoid"],
@@ -180,6 +208,8 @@ pub(crate) fn all_task_options() -> &'static [&'static str]
         "x-size",
         "conflicts",
         "schur-cohn",
+        "inputs",
+        "outputs",
     ]
 }
 
@@ -202,6 +232,8 @@ pub(crate) fn all_job_options() -> &'static [&'static str]
         "x-size",
         "conflicts",
         "schur-cohn",
+        "inputs",
+        "outputs",
         "certificate",
         "realization",
         "rounding",

@@ -18,7 +18,7 @@ use Rattle.dsv_report.specs.declared.stop.Stop.TheVariants as stop
 use Rattle.dsv_report.specs.declared.stop.WhichFile.{WhichFile}
 use Rattle.dsv_report.specs.declared.stop.WhichFile.TheVariants as file
 use Rattle.dsv_files.specs.FileBytes.{IsOfController, controller_kind}
-use Rattle.dsv_files.specs.Files.{FileKind, a_controller, a_section, a_state_controller, a_plant, a_certificate, an_ellipsoid, which_of, limit_of, too_long_of, longest_file, longest_certificate, NoneCame, Content, IsText, IsFaulty, IsFileOf, IsUnread}
+use Rattle.dsv_files.specs.Files.{FileKind, a_controller, a_section, a_state_controller, a_plant, a_certificate, an_ellipsoid, some_inputs, which_of, limit_of, too_long_of, longest_file, longest_certificate, longest_inputs, NoneCame, Content, IsText, IsFaulty, IsFileOf, IsUnread}
 use Rattle.dsv_files.proofs.Told.{more_came}
 
 -- ---- bytes that didn't come
@@ -28,6 +28,7 @@ long_unread old new name file.Controller why e h r = rw e (refl, more_came longe
 long_unread old new name (file.Section section) why e h r = rw e (refl, more_came longest_file (old.held name) h, r)
 long_unread old new name file.Plant why e h r = rw e (refl, more_came longest_file (old.held name) h, r)
 long_unread old new name file.Certificate why e h r = rw e (refl, more_came longest_certificate (old.held name) h, r)
+long_unread old new name file.Inputs why e h r = rw e (refl, more_came longest_inputs (old.held name) h, r)
 
 -- of a controller, or of a section
 pub none_of_controller : (old new : FilesSeen) (name : List ℕ) (which : WhichFile) (why : Stop) → IsOfController which → NoneCame old new name which why → IsUnread (controller_kind which) old new name why
@@ -82,6 +83,7 @@ no_read_fault a_state_controller bytes which h = h
 no_read_fault a_plant bytes which h = h
 no_read_fault a_certificate bytes which h = h
 no_read_fault an_ellipsoid bytes which h = h
+no_read_fault some_inputs bytes which h = h
 
 pub file_rose : (kind : FileKind) (old new : FilesSeen) (name : List ℕ) (which : WhichFile) → IsUnread kind old new name (stop.ReadFault which) → Rose old.faults new.faults
 file_rose kind old new name which (inl h) = h.1

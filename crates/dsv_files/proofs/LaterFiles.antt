@@ -1,14 +1,11 @@
 -- Why the files of a cascade's sections aren't those of controllers.
-use Rattle.std.proofs.Common.{◌≡◌, ◌<◌, ◌≤◌, ℕ, zero, suc, List, [], ◌∷◌, length, take, map, get_or, Bor, refl, ◌∙◌, arith, inl, inr}
+use Rattle.std.proofs.Common.{◌≡◌, ◌<◌, ◌≤◌, ℕ, zero, suc, List, [], ◌∷◌, length, take, map, get_or, Bor, refl, ◌∙◌, arith}
 use Rattle.std.specs.Prelude.{Some, slice_get}
 use Rattle.dsv_base.specs.Seen.{FilesSeen, AreKept}
 use Rattle.dsv_reader.specs.Controllers.{ControllerView}
 use Rattle.dsv_report.specs.declared.stop.Stop.{Stop}
 use Rattle.dsv_report.specs.declared.stop.Stop.TheVariants as stop
 use Rattle.dsv_files.specs.JobTexts.{AreControllers, IsLaterUnread}
-use Rattle.dsv_command.specs.Table.{cascade_loop}
-use Rattle.dsv_files.specs.JobTexts.{AreUnread}
-use Rattle.dsv_files.specs.LaterFiles.{IsFilesUnread}
 use Rattle.dsv_files.proofs.FileBytes.{file_earlier, text_earlier}
 use Rattle.dsv_files.proofs.Pairwise.{pairs_weaker}
 use Rattle.dsv_files.specs.Files.{a_controller, a_section, IsFileOf, IsUnread}
@@ -38,8 +35,3 @@ pub named : (names : List (Bor (List ℕ))) (i : ℕ) (d : Bor (List ℕ)) → i
 named [] i d l = absurd (omega arith)
 named (n ∷ names) zero d l = refl
 named (n ∷ names) (suc i) d l = named names i d (omega arith)
-
--- so it is of a cascade in its loop
-pub sections_unread : (old new : FilesSeen) (name : List ℕ) (later : List (List ℕ)) (plant : List ℕ) (why : Stop) → IsFilesUnread old new name later why → AreUnread old new (cascade_loop name later plant) why
-sections_unread old new name later plant why (inl h) = inl h
-sections_unread old new name later plant why (inr h) = inr (inl h)

@@ -1,3 +1,4 @@
+pub mod LoggedDigests
 pub mod FileBytes
 pub mod LaterFiles
 pub mod Told

@@ -1,5 +1,5 @@
 -- The files that jobs name: what a file has by its kind, and what keeps it from that.
-use Rattle.std.specs.Prelude.{◌≡◌, ◌⊎◌, ℕ, ◌+◌, ◌^◌, ◌<◌, ◌≤◌, List, length, Some, Ok, Err}
+use Rattle.std.specs.Prelude.{◌≡◌, ◌⊎◌, ℕ, ℤ, ◌+◌, ◌^◌, ◌<◌, ◌≤◌, List, length, Some, Ok, Err}
 use Rattle.dsv_base.specs.Counts.{Rose}
 use Rattle.dsv_base.specs.Seen.{FilesSeen, CameOf}
 use Rattle.dsv_reader.specs.Controllers.{ControllerView}
@@ -8,6 +8,7 @@ use Rattle.dsv_reader.specs.Reading.{plant_reading}
 use Rattle.dsv_reader.specs.Texts.{IsTextOf, IsFaultOf, IsPlantText}
 use Rattle.dsv_token.specs.declared.refusal.FileRefusal.{FileRefusal}
 use Rattle.dsv_token.specs.declared.refusal.FileRefusal.TheVariants as text
+use Rattle.dsv_input_file.specs.InputTexts.{inputs_in}
 use Rattle.dsv_state_file.specs.Reading.{state_of}
 use Rattle.dsv_state_file.specs.StateFiles.{StateFileView}
 use Rattle.dsv_state_file.specs.StateTexts.{IsStateText}
@@ -17,6 +18,7 @@ use Rattle.dsv_certfile.specs.declared.certificate.Certificate.{Certificate}
 use Rattle.dsv_certfile.specs.declared.ellipsoid.Ellipsoid.{Ellipsoid}
 use Rattle.dsv_certfile.specs.declared.fault.CertRefusal.TheVariants as unread
 use Rattle.dsv_report.specs.declared.stop.CertificateFault.TheVariants as fault
+use Rattle.dsv_report.specs.declared.stop.InputsFault.TheVariants as inputs_fault
 use Rattle.dsv_report.specs.declared.stop.Stop.{Stop}
 use Rattle.dsv_report.specs.declared.stop.Stop.TheVariants as stop
 use Rattle.dsv_report.specs.declared.stop.WhichFile.{WhichFile}
@@ -32,6 +34,8 @@ pub data FileKind : Type 0 where
   a_plant : FileKind
   a_certificate : FileKind
   an_ellipsoid : FileKind
+  -- the inputs of a run
+  some_inputs : FileKind
 
 -- the name that refusals have for a file of the kind
 abbrev pub which_of : FileKind → WhichFile
@@ -41,6 +45,7 @@ which_of a_state_controller = file.Controller
 which_of a_plant = file.Plant
 which_of a_certificate = file.Certificate
 which_of an_ellipsoid = file.Certificate
+which_of some_inputs = file.Inputs
 
 -- ---- bytes
 -- the most bytes that a controller file has
@@ -51,14 +56,20 @@ longest_file = 65536
 abbrev pub longest_certificate : ℕ
 longest_certificate = 2 ^ 26
 
+-- the most bytes that a file of inputs has: 1 MiB
+abbrev pub longest_inputs : ℕ
+longest_inputs = 2 ^ 20
+
 -- the most bytes that the file may have
 abbrev pub limit_of : WhichFile → ℕ
 limit_of file.Certificate = longest_certificate
+limit_of file.Inputs = longest_inputs
 limit_of which = longest_file
 
 -- why there is no answer if it has more
 abbrev pub too_long_of : WhichFile → Stop
 too_long_of file.Certificate = stop.CertificateRefused 0 fault.TooLong
+too_long_of file.Inputs = stop.InputsRefused inputs_fault.TooLong
 too_long_of which = stop.FileTooLong which
 
 -- Why the bytes of the file of this name didn't come: the files were `old` and are `new`.
@@ -79,6 +90,7 @@ Content a_state_controller = StateFileView
 Content a_plant = PlantView
 Content a_certificate = Certificate
 Content an_ellipsoid = Ellipsoid
+Content some_inputs = List ℤ
 
 -- the bytes are its text
 abbrev pub IsText : (kind : FileKind) → List ℕ → Content kind → Type 0
@@ -88,6 +100,7 @@ IsText a_state_controller bytes c = IsStateText bytes c
 IsText a_plant bytes p = IsPlantText bytes p
 IsText a_certificate bytes c = certificate_in bytes ≡ Ok c
 IsText an_ellipsoid bytes offer = ellipsoid_in bytes ≡ Ok offer
+IsText some_inputs bytes inputs = inputs_in bytes ≡ Ok inputs
 
 -- The text is refused so, by its fault; want of memory is none.
 abbrev pub IsRefusedBy : (FileRefusal → Type 0) → WhichFile → Stop → Type 0
@@ -104,6 +117,7 @@ IsFaulty a_state_controller bytes (stop.StateRefused r) = state_of bytes ≡ Err
 IsFaulty a_certificate bytes (stop.CertificateRefused line (fault.Text why)) =
     certificate_in bytes ≡ Err (unread.Text line why)
 IsFaulty an_ellipsoid bytes (stop.EllipsoidText r) = ellipsoid_in bytes ≡ Err r
+IsFaulty some_inputs bytes (stop.InputsRefused (inputs_fault.Text r)) = inputs_in bytes ≡ Err r
 IsFaulty kind bytes other = ⊥
 
 -- ---- files

@@ -1,5 +1,5 @@
 -- What the files of a job have, and the file that its task names.
-use Rattle.std.specs.Prelude.{◌≡◌, ◌⊎◌, ℕ, List, Some, suc, take, slice_get}
+use Rattle.std.specs.Prelude.{◌≡◌, ◌⊎◌, ℕ, ℤ, List, Some, suc, take, slice_get}
 use Rattle.dsv_base.specs.Seen.{FilesSeen}
 use Rattle.dsv_reader.specs.Controllers.{ControllerView}
 use Rattle.dsv_reader.specs.Plants.{PlantView}
@@ -9,10 +9,10 @@ use Rattle.dsv_certfile.specs.declared.certificate.Certificate.{Certificate}
 use Rattle.dsv_certfile.specs.declared.ellipsoid.Ellipsoid.{Ellipsoid}
 use Rattle.dsv_certfile.specs.declared.job.CertWords.{CertWords}
 use Rattle.dsv_command.specs.Table.{JobFiles, controller, cascade, states, plant_loop, cascade_loop}
-use Rattle.dsv_command.specs.Table.{Task, checks_form, checks_ellipsoid}
+use Rattle.dsv_command.specs.Table.{Task, checks_form, checks_ellipsoid, runs_file}
 use Rattle.dsv_report.specs.declared.stop.Stop.{Stop}
 use Rattle.dsv_files.specs.Files.{a_controller, a_state_controller, a_plant, a_certificate}
-use Rattle.dsv_files.specs.Files.{an_ellipsoid, IsFileOf, IsUnread, a_section}
+use Rattle.dsv_files.specs.Files.{an_ellipsoid, some_inputs, IsFileOf, IsUnread, a_section}
 use Rattle.dsv_base.specs.Lists.{Pairwise}
 use Rattle.dsv_certfile.specs.declared.job.CertWords.TheVariants as words
 use Rattle.dsv_report.specs.declared.stop.Stop.TheVariants as stop
@@ -72,6 +72,7 @@ pub data Evidence : Type 0 where
   none : Evidence
   certificate : Certificate → Evidence
   ellipsoid : Ellipsoid → Evidence
+  input_list : List ℤ → Evidence
 
 -- the file that the task names, if it does, has this
 abbrev pub HasEvidence : FilesSeen → Task → Evidence → Type 0
@@ -79,6 +80,8 @@ HasEvidence old (checks_form name) (certificate c) = IsFileOf a_certificate old 
 HasEvidence old (checks_form name) other = ⊥
 HasEvidence old (checks_ellipsoid name) (ellipsoid offer) = IsFileOf an_ellipsoid old name offer
 HasEvidence old (checks_ellipsoid name) other = ⊥
+HasEvidence old (runs_file name outputs) (input_list xs) = IsFileOf some_inputs old name xs
+HasEvidence old (runs_file name outputs) other = ⊥
 HasEvidence old task none = Unit {0}
 HasEvidence old task other = ⊥
 
@@ -86,6 +89,7 @@ HasEvidence old task other = ⊥
 abbrev pub IsEvidenceUnread : FilesSeen → FilesSeen → Task → Stop → Type 0
 IsEvidenceUnread old new (checks_form name) why = IsUnread a_certificate old new name why
 IsEvidenceUnread old new (checks_ellipsoid name) why = IsUnread an_ellipsoid old new name why
+IsEvidenceUnread old new (runs_file name outputs) why = IsUnread some_inputs old new name why
 IsEvidenceUnread old new task why = ⊥
 
 -- ---- what is said of files

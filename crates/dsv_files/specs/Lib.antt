@@ -1,3 +1,4 @@
+pub mod Digests
 pub mod FileBytes
 pub mod Files
 pub mod LaterFiles

@@ -1,10 +1,10 @@
 -- For private contracts: what came of files, as the definitions have it.
-use Rattle.std.specs.Prelude.{◌≤◌}
+use Rattle.std.specs.Prelude.{◌≤◌, length}
 use Rattle.dsv_command.specs.Table.{Task, checks_form}
-use Rattle.dsv_command.specs.Table.{checks_ellipsoid}
+use Rattle.dsv_command.specs.Table.{checks_ellipsoid, runs_file}
 use Rattle.dsv_files.specs.JobTexts as rows
 use Rattle.dsv_files.specs.JobTexts.{JobTexts, of_one, of_sections, of_state_file, with_plant}
-use Rattle.dsv_files.specs.JobTexts.{sections_with_plant, none, certificate, ellipsoid}
+use Rattle.dsv_files.specs.JobTexts.{sections_with_plant, none, certificate, ellipsoid, input_list}
 use Rattle.dsv_files.specs.declared.evidence.Evidence.{Evidence}
 use Rattle.dsv_files.specs.declared.evidence.Evidence.TheVariants as of_evidence
 use Rattle.dsv_files.specs.declared.texts.Texts.{Texts}
@@ -21,12 +21,16 @@ abbrev pub evidence_view : Evidence → rows.Evidence
 evidence_view of_evidence.Nothing = none
 evidence_view (of_evidence.Certificate c) = certificate c
 evidence_view (of_evidence.Ellipsoid offer) = ellipsoid offer
+evidence_view (of_evidence.Inputs xs) = input_list xs
 
--- a task has such evidence as it names; the form of an ellipsoid has at most eight places
+-- a task has such evidence as it names; the form of an ellipsoid has at most eight places, and
+-- there are at most 65,536 inputs
 abbrev pub IsEvidenceFor : Task → rows.Evidence → Type 0
 IsEvidenceFor (checks_form name) (certificate c) = Unit {0}
 IsEvidenceFor (checks_form name) other = ⊥
 IsEvidenceFor (checks_ellipsoid name) (ellipsoid offer) = offer.form.d ≤ 8
 IsEvidenceFor (checks_ellipsoid name) other = ⊥
+IsEvidenceFor (runs_file name outputs) (input_list xs) = length xs ≤ 65536
+IsEvidenceFor (runs_file name outputs) other = ⊥
 IsEvidenceFor task none = Unit {0}
 IsEvidenceFor task other = ⊥

@@ -4,7 +4,7 @@ ghost use Rattle.dsv_base.specs.Seen.{AreKept};
 ghost use Rattle.dsv_files.specs.Files.{limit_of, too_long_of, NoneCame};
 
 use dsv_base::{Bytes, Files, ReadEnd, read_all};
-use dsv_report::{CertificateFault, Stop, WhichFile};
+use dsv_report::{CertificateFault, InputsFault, Stop, WhichFile};
 use std::alloc::Global;
 
 /// The most bytes that the file of a controller or of a plant may have.
@@ -12,6 +12,9 @@ const LONGEST_FILE: u64 = 65_536;
 
 /// The most bytes that a certificate's file may have: 64 MiB.
 const LONGEST_CERTIFICATE: u64 = 1 << 26;
+
+/// The most bytes that a file of inputs may have: 1 MiB.
+const LONGEST_INPUTS: u64 = 1 << 20;
 
 /// The most bytes that the file may have.
 fn limit_of(which: WhichFile) -> u64
@@ -21,6 +24,7 @@ fn limit_of(which: WhichFile) -> u64
     match which {
         WhichFile::Controller | WhichFile::Section(_) | WhichFile::Plant => LONGEST_FILE,
         WhichFile::Certificate => LONGEST_CERTIFICATE,
+        WhichFile::Inputs => LONGEST_INPUTS,
     }
 }
 
@@ -33,6 +37,7 @@ fn too_long_stop(which: WhichFile) -> Stop
             line: 0,
             fault: CertificateFault::TooLong,
         },
+        WhichFile::Inputs => Stop::InputsRefused(InputsFault::TooLong),
         which => Stop::FileTooLong { which },
     }
 }

@@ -2,13 +2,16 @@
 #![tactic(auto)]
 
 mod controller_file;
+mod digests;
 mod evidence;
 mod file_bytes;
+mod inputs_file;
 mod plant_file;
 mod section_files;
 mod state_file;
 mod texts;
 
+pub use digests::{Digests, FileDigest};
 pub use evidence::{Evidence, read_certificate, read_evidence};
 pub use section_files::{SectionFiles, push_item};
 pub use texts::{Said, Texts, read_texts};

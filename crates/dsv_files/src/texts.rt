@@ -2,19 +2,20 @@
 ghost use Rattle.std.specs.Prelude.{◌≡◌, ◌≤◌, IfOk, IfErr};
 ghost use Rattle.dsv_certfile.specs.Lawful.{IsWords};
 ghost use Rattle.dsv_certfile.specs.Words.{words_for};
-ghost use Rattle.dsv_command.specs.Table.{cascade_loop, plant_loop};
-ghost use Rattle.dsv_command.specs.Views.{files_view, names_view};
+ghost use Rattle.dsv_command.specs.Views.{files_view};
 ghost use Rattle.dsv_base.specs.Seen.{AreKept};
+ghost use Rattle.dsv_files.specs.Digests.{AreLogged, named_by};
 ghost use Rattle.dsv_files.specs.JobTexts.{AreUnread, HaveTexts, IsSaidOf};
 ghost use Rattle.dsv_files.specs.Views.{texts_view};
 
 use crate::controller_file::read_controller;
+use crate::digests::Digests;
 use crate::plant_file::read_plant_file;
 use crate::section_files::{SectionFiles, read_sections};
 use crate::state_file::read_state_file;
 use dsv_base::Files;
 use dsv_certfile::CertWords;
-use dsv_command::{JobFiles, SectionNames};
+use dsv_command::JobFiles;
 use dsv_reader::{Controller, Plant};
 use dsv_report::{Stop, WhichFile};
 use dsv_state_file::StateFile;
@@ -78,42 +79,8 @@ impl Texts {
     }
 }
 
-/// The texts of the files of a loop: the controller's file is read first.
-fn read_loop<F: Files>(alloc: Global, file: &str, plant: &str, files: &mut F) -> Result<Texts, Stop>
-    ensures texts { IfOk result (λ came. HaveTexts (F.seen files.old)
-        (plant_loop file.now plant.now) (texts_view came)) }
-    ensures unread { IfErr result
-        (AreUnread (F.seen files.old) (F.seen files.new) (plant_loop file.now plant.now)) }
-    ensures kept { AreKept (F.seen files.old) (F.seen files.new) }
-    ensures came { IfOk result (λ t. (F.seen files.old).came ≤ (F.seen files.new).came) }
-{
-    let controller = read_controller(alloc, file, WhichFile::Controller, files)?;
-    let plant = read_plant_file(alloc, plant, files)?;
-    Ok(Texts::Loop { controller, plant })
-}
-
-/// The texts of the files of a cascade's loop: the sections' files are read first.
-fn read_cascade_loop<F: Files>(
-    alloc: Global,
-    file: &str,
-    later: &SectionNames,
-    plant: &str,
-    files: &mut F,
-) -> Result<Texts, Stop>
-    ensures texts { IfOk result (λ came. HaveTexts (F.seen files.old)
-        (cascade_loop file.now (names_view later.now.items) plant.now) (texts_view came)) }
-    ensures unread { IfErr result (AreUnread (F.seen files.old) (F.seen files.new)
-        (cascade_loop file.now (names_view later.now.items) plant.now)) }
-    ensures kept { AreKept (F.seen files.old) (F.seen files.new) }
-    ensures came { IfOk result (λ t. (F.seen files.old).came ≤ (F.seen files.new).came) }
-{
-    let sections = read_sections(alloc, file, later, files)?;
-    let plant = read_plant_file(alloc, plant, files)?;
-    Ok(Texts::CascadeLoop { sections, plant })
-}
-
 /// The texts of the files that a job names, which are read in their order: the controller's or that
-/// of section 0, those of the later sections, the plant's.
+/// of section 0, those of the later sections, the plant's; their digests are added.
 ///
 /// # Errors
 ///
@@ -121,26 +88,42 @@ fn read_cascade_loop<F: Files>(
 /// couldn't be read ([`Stop::ReadFault`]), there are more than 65,536 ([`Stop::FileTooLong`]), or
 /// they have a first fault ([`Stop::FileRefused`], [`Stop::StateRefused`]). Each says which file it
 /// is. Want of memory comes wherever there is none.
-pub fn read_texts<F: Files>(alloc: Global, named: &JobFiles, files: &mut F) -> Result<Texts, Stop>
+pub fn read_texts<'a, F: Files>(
+    alloc: Global,
+    named: &JobFiles<'a>,
+    files: &mut F,
+    digests: &mut Digests<'a>,
+) -> Result<Texts, Stop>
     ensures texts { IfOk result (λ came. HaveTexts (F.seen files.old) (files_view named.now)
         (texts_view came)) }
+    ensures digests { IfOk result (λ came. AreLogged (F.seen files.old)
+        (named_by (files_view named.now)) digests.old digests.new) }
     ensures unread { IfErr result
         (AreUnread (F.seen files.old) (F.seen files.new) (files_view named.now)) }
     ensures kept { AreKept (F.seen files.old) (F.seen files.new) }
     ensures came { IfOk result (λ t. (F.seen files.old).came ≤ (F.seen files.new).came) }
 {
     match named {
-        JobFiles::Controller(file) => {
-            let controller = read_controller(alloc, file, WhichFile::Controller, files)?;
-            Ok(Texts::Controller(controller))
-        }
+        JobFiles::Controller(file) => Ok(Texts::Controller(read_controller(
+            alloc,
+            file,
+            WhichFile::Controller,
+            files,
+            digests,
+        )?)),
         JobFiles::Cascade { file, later } => {
-            Ok(Texts::Cascade(read_sections(alloc, file, later, files)?))
+            Ok(Texts::Cascade(read_sections(alloc, file, later, files, digests)?))
         }
-        JobFiles::States(file) => Ok(Texts::States(read_state_file(alloc, file, files)?)),
-        JobFiles::Loop { file, plant } => read_loop(alloc, file, plant, files),
+        JobFiles::States(file) => Ok(Texts::States(read_state_file(alloc, file, files, digests)?)),
+        JobFiles::Loop { file, plant } => {
+            let controller = read_controller(alloc, file, WhichFile::Controller, files, digests)?;
+            let plant = read_plant_file(alloc, plant, files, digests)?;
+            Ok(Texts::Loop { controller, plant })
+        }
         JobFiles::CascadeLoop { file, later, plant } => {
-            read_cascade_loop(alloc, file, later, plant, files)
+            let sections = read_sections(alloc, file, later, files, digests)?;
+            let plant = read_plant_file(alloc, plant, files, digests)?;
+            Ok(Texts::CascadeLoop { sections, plant })
         }
     }
 }

@@ -1,6 +1,7 @@
 -- The lines of a list, one after another, each by its number.
 use Rattle.std.proofs.Common.{◌≡◌, ◌∙◌, sym, ap, refl, ℕ, zero, suc, ◌+◌, ◌<◌, List, [], ◌∷◌, ◌++◌, length, take, drop, map, get_or, subst, add-one, arith}
 use Rattle.std.proofs.lemmas.List.{append_assoc, append-nil}
+use Rattle.std.specs.List.{flat_map}
 use Rattle.dsv_base.specs.Seen.{SinkSeen}
 use Rattle.dsv_base.specs.Taking.{Wrote, CutShort}
 use Rattle.dsv_base.proofs.TakingLemmas.{wrote_more, cut_later, cut_more}
@@ -10,6 +11,11 @@ use Rattle.dsv_report.specs.Lines.{numbered_lines}
 pub lines_of_map : {A B : Type 0} (text : ℕ → B → List ℕ) (f : A → B) (k : ℕ) (xs : List A) → numbered_lines (λ n x. text n (f x)) k xs ≡ numbered_lines text k (map f xs)
 lines_of_map text f k [] = refl
 lines_of_map text f k (x ∷ xs) = ap (λ t. text k (f x) ++ t) (lines_of_map text f (k + 1) xs)
+
+-- and with no numbers
+pub flat_map_of_map : {A B : Type 0} (text : B → List ℕ) (f : A → B) (xs : List A) → flat_map (λ x. text (f x)) xs ≡ flat_map text (map f xs)
+flat_map_of_map text f [] = refl
+flat_map_of_map text f (x ∷ xs) = ap (λ t. text (f x) ++ t) (flat_map_of_map text f xs)
 
 -- one element more
 lines_more : {A : Type 0} (text : ℕ → A → List ℕ) (k i : ℕ) (xs : List A) (d : A) → i < length xs → numbered_lines text k (take (suc i) xs) ≡ numbered_lines text k (take i xs) ++ text (k + i) (get_or xs i d)

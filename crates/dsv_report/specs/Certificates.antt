@@ -1,14 +1,12 @@
 -- The texts of the answers to checks of certificates.
-use Rattle.std.specs.Prelude.{ℕ, List, [], ◌∷◌, ◌++◌, codes, pos, Option}
+use Rattle.std.specs.Prelude.{ℕ, List, [], ◌∷◌, ◌++◌, codes, pos}
 use Rattle.std.specs.Fmt.{signed_decimal}
 use Rattle.dsv_certfile.specs.declared.fault.CheckFault.TheVariants as check
 use Rattle.dsv_certfile.specs.declared.fault.TextFault.TheVariants as text
 use Rattle.dsv_certfile.specs.declared.job.CertifiedJob.{CertifiedJob}
 use Rattle.dsv_certfile.specs.declared.job.Size.{Size}
 use Rattle.dsv_certfile.specs.declared.job.Size.TheVariants as size
-use Rattle.dsv_gain.specs.declared.roundoff.ShownError.{ShownError}
 use Rattle.dsv_report.specs.Fragments.{concatenation}
-use Rattle.dsv_report.specs.Gains.{shown_text}
 use Rattle.dsv_report.specs.Lines.{property_text, realisation_text, number_line}
 use Rattle.dsv_report.specs.declared.stop.CertificateFault.{CertificateFault}
 use Rattle.dsv_report.specs.declared.stop.CertificateFault.TheVariants as fault
@@ -29,10 +27,6 @@ abbrev pub checked_job_text : CertifiedJob → List ℕ
 checked_job_text job = accepted
     ++ (property_text job.property
     ++ (realisation_text job.design.realisation ++ size_line job.size))
-
--- and what it shows of the output's error
-abbrev pub checked_text : CertifiedJob → Option ShownError → List ℕ
-checked_text job error = checked_job_text job ++ shown_text error
 
 -- ---- refusals
 unfoldable pub refused : List ℕ

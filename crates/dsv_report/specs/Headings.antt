@@ -9,6 +9,7 @@ use Rattle.dsv_names.specs.declared.property.RootProperty.TheVariants.{Stability
 use Rattle.dsv_command.specs.Table.{JobFiles, controller, cascade, states, plant_loop}
 use Rattle.dsv_command.specs.Table.{cascade_loop, kind_of, Task, decides, checks_time, writes}
 use Rattle.dsv_command.specs.Table.{searches, seeks_set, measures_gain, simulates, checks_form}
+use Rattle.dsv_command.specs.Table.{runs_file, tells_words}
 use Rattle.dsv_command.specs.Table.{seeks_form, checks_ellipsoid, seeks_ellipsoid, Job, Request}
 use Rattle.dsv_command.specs.Table.{does}
 use Rattle.dsv_command.specs.Views.{job_view}
@@ -36,7 +37,7 @@ asked_by many (Some (does job)) = Some (record { job = job; states = many })
 asked_by many other = None
 
 -- ---- what was asked
--- the property that a task is about; a simulation is about none
+-- the property that a task is about; a simulation is about none, and so is one that tells words
 abbrev pub property_of : Task → Option Property
 property_of (decides property schur_cohn) = Some (OfRoots property)
 property_of checks_time = Some Timing
@@ -44,7 +45,9 @@ property_of (writes property samples) = Some (OfRuns property)
 property_of (searches property samples conflicts) = Some (OfRuns property)
 property_of (seeks_set conflicts) = Some (OfRuns Overflow)
 property_of measures_gain = Some (OfRuns Overflow)
-property_of (simulates inputs) = None
+property_of (simulates inputs outputs) = None
+property_of (runs_file name outputs) = None
+property_of tells_words = None
 property_of (checks_form name) = Some (OfRoots Stability)
 property_of seeks_form = Some (OfRoots Stability)
 property_of (checks_ellipsoid name) = Some (OfRuns Overflow)

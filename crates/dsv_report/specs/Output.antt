@@ -93,13 +93,13 @@ certificate_written (Some asked) words (Ok found) = certificate_of asked.job wor
 certificate_written asked words found = None
 
 -- ---- what is written
--- for what a job comes to, or arguments that ask for none
-abbrev pub output_of : Option HeadingView → CertWords → Outcome → List ℕ
-output_of asked words (Ok found) =
-    text_or (certificate_written asked words (Ok found)) (answer_text asked found)
-output_of asked words (Err why) = stop_text why
+-- for what a job comes to, or arguments that ask for none; a report has these lines that tell words
+abbrev pub output_of : Option HeadingView → List ℕ → CertWords → Outcome → List ℕ
+output_of asked lines words (Ok found) =
+    text_or (certificate_written asked words (Ok found)) (answer_text asked lines found)
+output_of asked lines words (Err why) = stop_text why
 
 -- what a run writes: if the line asks for a reason and there is one, that stands in place of USAGE
-abbrev pub run_text : Option Reason → Option HeadingView → CertWords → Outcome → List ℕ
-run_text (Some reason) asked words (Err stop.Usage) = reason_text reason
-run_text reason asked words found = output_of asked words found
+abbrev pub run_text : Option Reason → Option HeadingView → List ℕ → CertWords → Outcome → List ℕ
+run_text (Some reason) asked lines words (Err stop.Usage) = reason_text reason
+run_text reason asked lines words found = output_of asked lines words found

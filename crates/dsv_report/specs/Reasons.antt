@@ -1,12 +1,11 @@
 -- The line that says why a command line is none.
-use Rattle.std.specs.Prelude.{ℕ, ◌==◌, ◌||◌, nat_lt, List, [], ◌∷◌, ◌++◌, codes, if◌then◌else◌}
-use Rattle.std.specs.Prelude.{unwrap_or}
-use Rattle.std.specs.List.{flat_map}
+use Rattle.std.specs.Prelude.{ℕ, List, [], ◌∷◌, ◌++◌, codes, unwrap_or}
 use Rattle.std.specs.Map.{lookup}
 use Rattle.std.specs.Str.{bytes_eq}
 use Rattle.dsv_command.specs.Parts.{PartView, file, flag, choice, Key, for_file, for_option}
 use Rattle.dsv_command.specs.Reasons.{Reason, unknown, twice, lacks_value, takes_none, is_blank}
 use Rattle.dsv_command.specs.Reasons.{bad_value, apart, wants, wants_form, no_task, no_file}
+use Rattle.dsv_word_lines.specs.ControlCharacters.{shown}
 
 -- what the values of an option may be; of an option that isn't here, the name of a file
 abbrev pub allowed_values : List (List ℕ × List ℕ)
@@ -29,16 +28,6 @@ allowed_in table name = unwrap_or (lookup (bytes_eq name) table) (codes "the nam
 
 abbrev pub values_of : List ℕ → List ℕ
 values_of name = allowed_in allowed_values name
-
--- a byte that stands for a control character shows as `?`, so that the text stays one line
-abbrev pub shown_byte : ℕ → ℕ
-shown_byte byte = if nat_lt byte 32 || byte == 127 then 63 else byte
-
-abbrev pub shown_bytes : ℕ → List ℕ
-shown_bytes byte = shown_byte byte ∷ []
-
-abbrev pub shown : List ℕ → List ℕ
-shown text = flat_map shown_bytes text
 
 abbrev pub option_text : List ℕ → List ℕ
 option_text name = codes "--" ++ name

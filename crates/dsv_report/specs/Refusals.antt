@@ -1,4 +1,4 @@
--- The texts of refusals of a controller file.
+-- The texts of refusals of a controller file, and of a file of inputs.
 use Rattle.std.specs.Prelude.{ℕ, List, [], ◌∷◌, codes, ℤ, pos}
 use Rattle.std.specs.Fmt.{signed_decimal}
 use Rattle.dsv_token.specs.declared.refusal.FileRefusal.{FileRefusal}
@@ -9,6 +9,10 @@ use Rattle.dsv_names.specs.Wants.{wanted_name}
 use Rattle.dsv_report.specs.Fragments.{concatenation}
 use Rattle.dsv_quantiser.specs.declared.refusal.QuantRefusal.{QuantRefusal}
 use Rattle.dsv_quantiser.specs.declared.refusal.QuantRefusal.TheVariants as quant
+use Rattle.dsv_input_file.specs.declared.refusal.InputsRefusal.TheVariants as inputs
+use Rattle.dsv_report.specs.Lines.{number_line}
+use Rattle.dsv_report.specs.declared.stop.InputsFault.{InputsFault}
+use Rattle.dsv_report.specs.declared.stop.InputsFault.TheVariants as fault
 
 -- the code and the name of a refusal, and the offset where it stands
 unfoldable pub code_of : FileRefusal → List ℕ
@@ -83,3 +87,11 @@ input_code = codes "FILE REFUSED 25 INPUT_RANGE "
 abbrev pub input_text : ℕ → ℤ → List ℕ
 input_text index value = concatenation
     (input_code ∷ signed_decimal (pos index) ∷ codes " " ∷ signed_decimal value ∷ codes "\n" ∷ [])
+
+-- why a file of inputs is refused
+abbrev pub inputs_text : InputsFault → List ℕ
+inputs_text (fault.Text (inputs.Number line)) =
+    number_line (codes "INPUTS REFUSED 81 NUMBER line ") line
+inputs_text (fault.Text inputs.Many) = codes "INPUTS REFUSED 82 MANY\n"
+inputs_text (fault.Text inputs.NoNumbers) = codes "INPUTS REFUSED 83 NONE\n"
+inputs_text fault.TooLong = codes "INPUTS REFUSED 84 TOO_LONG\n"

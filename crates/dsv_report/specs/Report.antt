@@ -21,7 +21,7 @@ use Rattle.dsv_template.specs.declared.candidate.Inequality.{Inequality}
 use Rattle.dsv_template.specs.declared.kept.KeptSet.{KeptSet}
 use Rattle.dsv_template.specs.declared.verdict.Why.{Why}
 use Rattle.dsv_template.specs.declared.verdict.Why.TheVariants as why
-use Rattle.dsv_report.specs.Certificates.{checked_text, certificate_text}
+use Rattle.dsv_report.specs.Certificates.{checked_job_text, certificate_text}
 use Rattle.dsv_report.specs.CascadeTexts.{section_line, forms_text}
 use Rattle.dsv_report.specs.CascadeTexts.{section_tables_text, cascade_refusal_text}
 use Rattle.dsv_certfile.specs.Ellipsoids.{ellipsoid_text}
@@ -30,7 +30,8 @@ use Rattle.dsv_report.specs.EllipsoidTexts.{no_offer_text, offer_fault_text}
 use Rattle.dsv_report.specs.EllipsoidTexts.{ellipsoid_refusal_text}
 use Rattle.dsv_report.specs.Forms.{numbers_line, fall_text, form_text, start_text}
 use Rattle.dsv_report.specs.Fragments.{concatenation}
-use Rattle.dsv_report.specs.Gains.{gain_text, error_text, out_of_range_text, too_deep_text}
+use Rattle.dsv_report.specs.Gains.{gain_text, error_text, shown_text, out_of_range_text}
+use Rattle.dsv_report.specs.Gains.{too_deep_text}
 use Rattle.dsv_report.specs.Headings.{HeadingView, heading, verdict_status}
 use Rattle.dsv_report.specs.Lines.{numbered, number_line}
 use Rattle.dsv_report.specs.Lines.{numbered_lines}
@@ -40,7 +41,7 @@ use Rattle.dsv_poly_table.specs.declared.sections.SectionTables.{SectionTables}
 use Rattle.dsv_poly_table.specs.declared.sections.SectionTables.TheVariants as section_tables
 use Rattle.dsv_table.specs.declared.verdict.TableVerdict.{TableVerdict}
 use Rattle.dsv_table.specs.declared.verdict.TableVerdict.TheVariants as table
-use Rattle.dsv_report.specs.Refusals.{file_text, quant_text, input_text}
+use Rattle.dsv_report.specs.Refusals.{inputs_text, file_text, quant_text, input_text}
 use Rattle.dsv_report.specs.StateTexts.{no_state_form_text, state_text}
 use Rattle.dsv_report.specs.StateTexts.{state_quant_text}
 use Rattle.dsv_report.specs.Stops.{Outcome}
@@ -163,6 +164,10 @@ sample_head number x y =
 abbrev pub sample_text : ℕ → SampleRow → List ℕ
 sample_text number row = sample_head number row.x row.y ++ numbers_line (codes " exact") row.exact
 
+-- the output of a sample alone
+abbrev pub output_text : SampleRow → List ℕ
+output_text row = concatenation (signed_decimal row.y ∷ codes "\n" ∷ [])
+
 -- the lines of samples with these numbers on
 abbrev pub samples_text : ℕ → List SampleRow → List ℕ
 samples_text = numbered_lines sample_text
@@ -214,10 +219,12 @@ verdict_of (answer.Cycles cycle) = Failed
 verdict_of (answer.Spent log) = Inconclusive
 verdict_of (answer.FormulaText formula) = Plain
 verdict_of (answer.Simulated rows) = Simulation
+verdict_of (answer.Outputs rows) = Plain
+verdict_of answer.Words = Plain
 verdict_of (answer.Generated found) = Plain
 verdict_of (answer.Checked certified error) = Plain
 
--- what stands after the heading
+-- what stands after the heading, and after the lines that tell words
 abbrev pub body_text : Answer → List ℕ
 body_text (answer.Falls poly offer fall) = form_text poly offer.form fall
 body_text (answer.KeptAway poly offer fall value) =
@@ -247,12 +254,24 @@ body_text (answer.Cycles cycle) = cycle_text cycle
 body_text (answer.Spent log) = spent_text (length log)
 body_text (answer.FormulaText formula) = dimacs_text formula
 body_text (answer.Simulated rows) = samples_text 0 rows
+body_text (answer.Outputs rows) = flat_map output_text rows
+body_text answer.Words = []
 body_text (answer.Generated found) = tally_text found
-body_text (answer.Checked certified error) = checked_text certified error
+body_text (answer.Checked certified error) = shown_text error
 
--- the text of an answer to a job, or to a check or a generation, which are no jobs
-abbrev pub answer_text : Option HeadingView → Answer → List ℕ
-answer_text job found = heading (verdict_of found) job ++ body_text found
+-- what a certificate shows that passed its check
+abbrev pub certified_text : Answer → List ℕ
+certified_text (answer.Checked certified error) = checked_job_text certified
+certified_text found = []
+
+-- what stands first: the heading, or what a certificate shows, which has none
+abbrev pub opening : Option HeadingView → Answer → List ℕ
+opening job found = heading (verdict_of found) job ++ certified_text found
+
+-- the text of an answer to a job, or to a check or a generation, which are no jobs; these lines
+-- tell words
+abbrev pub answer_text : Option HeadingView → List ℕ → Answer → List ℕ
+answer_text job lines found = opening job found ++ (lines ++ body_text found)
 
 abbrev pub too_long_text : List ℕ
 too_long_text = codes "FILE REFUSED 12 TOO_LONG at 65536\n"
@@ -283,6 +302,8 @@ stop_text (stop.ReadFault file.Certificate) = codes "READ FAULT CERTIFICATE\n"
 stop_text (stop.ReadFault (file.Section section)) =
     number_line (codes "READ FAULT SECTION ") section
 stop_text (stop.ReadFault file.Plant) = codes "READ FAULT PLANT\n"
+stop_text (stop.ReadFault file.Inputs) = codes "READ FAULT INPUTS\n"
+stop_text (stop.InputsRefused fault) = inputs_text fault
 stop_text stop.NoMemory = codes "NO MEMORY\n"
 
 -- ---- statuses
@@ -301,6 +322,7 @@ stop_status (stop.LoopRefused r) = 2
 stop_status (stop.StateRefused r) = 2
 stop_status (stop.StateQuantRefused r) = 2
 stop_status (stop.InputRange index value) = 2
+stop_status (stop.InputsRefused fault) = 2
 stop_status (stop.EllipsoidText r) = 7
 stop_status (stop.EllipsoidRefused r) = 7
 stop_status (stop.ReadFault file) = 3

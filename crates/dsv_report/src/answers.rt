@@ -129,6 +129,10 @@ pub enum Answer {
     FormulaText(Formula),
     /// The rows of the controller over the inputs of the job, from registers of zeros.
     Simulated(Rows),
+    /// So they are, of which the outputs alone are written.
+    Outputs(Rows),
+    /// The words of what is asked about, and no more: the lines of the report tell them.
+    Words,
     /// What is found of generated controllers.
     Generated(Generated),
     /// The certificate shows its property of the controller, and this of the output's error, if it

@@ -1,17 +1,15 @@
 // Writes the answers to checks of certificates, with no memory.
 ghost use Rattle.std.specs.Prelude.{◌≡◌};
 ghost use Rattle.dsv_base.specs.Taking.{Writes};
-ghost use Rattle.dsv_report.specs.Certificates.{size_line, checked_job_text, checked_text};
+ghost use Rattle.dsv_report.specs.Certificates.{size_line, checked_job_text};
 ghost use Rattle.dsv_report.specs.Certificates.{fault_name};
 ghost use Rattle.dsv_report.specs.Certificates.{certificate_text, refused};
 
 use crate::fragments::{Fragment, put_fragments};
-use crate::gains::put_shown_error;
 use crate::lines::{put_number_line, put_property, put_realisation};
 use crate::stop::CertificateFault;
 use dsv_base::{Failed, Sink, put_all};
 use dsv_certfile::{CertifiedJob, CheckFault, Size, TextFault};
-use dsv_gain::ShownError;
 
 /// Writes over how many samples, or that it is of the loop with a plant, up to the end of the line.
 fn put_size<K: Sink>(sink: &mut K, size: Size) -> Result<(), Failed>
@@ -27,25 +25,13 @@ fn put_size<K: Sink>(sink: &mut K, size: Size) -> Result<(), Failed>
 
 /// Writes the property that a certificate shows.
 #[tactic(auto, unfolding(crate::specs::Certificates::accepted))]
-fn put_checked_job<K: Sink>(sink: &mut K, job: &CertifiedJob) -> Result<(), Failed>
+pub(crate) fn put_checked_job<K: Sink>(sink: &mut K, job: &CertifiedJob) -> Result<(), Failed>
     ensures { Writes (K.seen sink.old) (K.seen sink.new) result (checked_job_text job.now) }
 {
     put_all(sink, b"CERTIFICATE ACCEPTED\n")?;
     put_property(sink, job.property)?;
     put_realisation(sink, job.design.realisation)?;
     put_size(sink, job.size)
-}
-
-/// Writes what a certificate that passed its check shows.
-pub(crate) fn put_checked<K: Sink>(
-    sink: &mut K,
-    job: &CertifiedJob,
-    error: Option<ShownError>,
-) -> Result<(), Failed>
-    ensures { Writes (K.seen sink.old) (K.seen sink.new) result (checked_text job.now error) }
-{
-    put_checked_job(sink, job)?;
-    put_shown_error(sink, error)
 }
 
 /// The code and the name of a fault.

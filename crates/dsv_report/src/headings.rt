@@ -24,7 +24,7 @@ pub struct Heading<'a> {
     pub states: u32,
 }
 
-/// The property that a task is about; a simulation is about none.
+/// The property that a task is about; a simulation is about none, and so is one that tells words.
 pub(crate) fn property_of(task: &Task) -> Option<Property>
     ensures { result ≡ property_of (task_view task.now) }
 {
@@ -38,7 +38,7 @@ pub(crate) fn property_of(task: &Task) -> Option<Property>
         Task::SeekSet(_) | Task::MeasureGain | Task::CheckEllipsoid(_) | Task::SeekEllipsoid => {
             Some(Property::OfRuns(RunProperty::Overflow))
         }
-        Task::Simulate(_) => None,
+        Task::Simulate(_, _) | Task::RunFile(_, _) | Task::TellWords => None,
     }
 }
 

@@ -27,5 +27,5 @@ pub use headings::Heading;
 pub use output::put_output;
 pub use reasons::put_reason;
 pub use report::status_of;
-pub use stop::{CertificateFault, Stop, WhichFile};
+pub use stop::{CertificateFault, InputsFault, Stop, WhichFile};
 pub use verdict::Verdict;

@@ -90,6 +90,7 @@ fn put_gain_certificate<K: Sink>(
 fn put_certificate<K: Sink>(
     sink: &mut K,
     asked: Heading,
+    lines: &[u8],
     certified: &CertifiedJob,
     answer: &Answer,
 ) -> Result<(), Failed>
@@ -98,7 +99,7 @@ fn put_certificate<K: Sink>(
     requires size { IsSize certified.now.size }
     ensures text { Writes (K.seen sink.old) (K.seen sink.new) result
         (text_or (certificate_for certified.now answer.now)
-        (answer_text (Some (heading_view asked.entry)) answer.now)) }
+        (answer_text (Some (heading_view asked.entry)) lines.now answer.now)) }
     ensures typed { OnOk result (IfSome (certificate_for certified.now answer.now) IsTyped) }
 {
     match answer {
@@ -112,22 +113,23 @@ fn put_certificate<K: Sink>(
         Answer::OfTable(found) if found.verdict.is_inside() => {
             write_table(sink, certified, &found.poly)
         }
-        _ => put_answer(sink, Some(asked), answer),
+        _ => put_answer(sink, Some(asked), lines, answer),
     }
 }
 
 /// Writes what is asked for of an answer: a certificate, where the job wants one and the answer has
-/// one, and else the report.
+/// one, and else the report with these lines that tell words.
 fn put_found<K: Sink>(
     sink: &mut K,
     asked: Option<Heading>,
+    lines: &[u8],
     words: CertWords,
     answer: &Answer,
 ) -> Result<(), Failed>
     requires places { HasPlaces answer.now }
     requires words { IsWords words }
     ensures text { Writes (K.seen sink.old) (K.seen sink.new) result
-        (output_of (option_map heading_view asked.entry) words (Ok answer.now)) }
+        (output_of (option_map heading_view asked.entry) lines.now words (Ok answer.now)) }
     ensures typed { OnOk result (IfSome
         (certificate_written (option_map heading_view asked.entry) words (Ok answer.now)) IsTyped) }
 {
@@ -136,30 +138,31 @@ fn put_found<K: Sink>(
         && let Some(property) = property_of(&asked.job.task)
     {
         let certified = certified_job(asked.job, words, property);
-        return put_certificate(sink, asked, &certified, answer);
+        return put_certificate(sink, asked, lines, &certified, answer);
     }
-    put_answer(sink, asked, answer)
+    put_answer(sink, asked, lines, answer)
 }
 
 /// Writes what is asked for of the answer to a job, or why there is none: a certificate, which says
 /// this of the controller's words, where the job wants one and the answer has one, and else the
-/// report. It takes no memory.
+/// report, with these lines that tell words after its heading. It takes no memory.
 pub fn put_output<K: Sink>(
     sink: &mut K,
     asked: Option<Heading>,
+    lines: &[u8],
     words: CertWords,
     outcome: &Result<Answer, Stop>,
 ) -> Result<(), Failed>
     requires places { IfOk outcome.now HasPlaces }
     requires words { IsWords words }
     ensures text { Writes (K.seen sink.old) (K.seen sink.new) result
-        (output_of (option_map heading_view asked.entry) words outcome.now) }
+        (output_of (option_map heading_view asked.entry) lines.now words outcome.now) }
     // Of a certificate that was written whole its types are known.
     ensures typed { OnOk result (IfSome
         (certificate_written (option_map heading_view asked.entry) words outcome.now) IsTyped) }
 {
     match outcome {
-        Ok(answer) => put_found(sink, asked, words, answer),
+        Ok(answer) => put_found(sink, asked, lines, words, answer),
         Err(stop) => put_stop(sink, stop),
     }
 }

@@ -6,11 +6,12 @@ ghost use Rattle.dsv_report.specs.AllowedViews.{allowed_view};
 ghost use Rattle.dsv_report.specs.Reasons.{allowed_in, allowed_text, allowed_values};
 ghost use Rattle.dsv_report.specs.Reasons.{apart_text, choice_text, value_text};
 ghost use Rattle.dsv_report.specs.Reasons.{bad_value_text, key_text, lacking_text, option_text};
-ghost use Rattle.dsv_report.specs.Reasons.{part_text, reason_text, shown, shown_byte};
+ghost use Rattle.dsv_report.specs.Reasons.{part_text, reason_text};
 ghost use Rattle.dsv_report.specs.Reasons.{unknown_text, values_of, wanting_text};
 
 use dsv_base::{Failed, Sink, put_all};
 use dsv_command::{Key, Part, Reason};
+use dsv_word_lines::put_shown;
 
 /// What the values of an option may be.
 #[derive(Clone, Copy)]
@@ -87,23 +88,6 @@ fn values_of(name: &str) -> &'static str
     ensures { result.now ≡ values_of name.now }
 {
     find_allowed(allowed_values(), name)
-}
-
-/// The byte, or `?` for a control character.
-fn shown_byte(byte: u8) -> u8
-    ensures { result ≡ shown_byte byte }
-{
-    if byte < 32 || byte == 127 { b'?' } else { byte }
-}
-
-/// Writes a text as it stands, with `?` for each control character.
-fn put_shown<K: Sink>(sink: &mut K, text: &[u8]) -> Result<(), Failed>
-    ensures { Writes (K.seen sink.old) (K.seen sink.new) result (shown text.now) }
-{
-    for byte in text {
-        put_all(sink, &[shown_byte(*byte)])?;
-    }
-    Ok(())
 }
 
 /// Writes an option's name.

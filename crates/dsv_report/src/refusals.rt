@@ -1,12 +1,16 @@
-// Writes why a controller file is refused, with no memory.
+// Writes why a controller file is refused, or a file of inputs, with no memory.
 ghost use Rattle.std.specs.Prelude.{◌≡◌};
 ghost use Rattle.dsv_base.specs.Taking.{Writes};
 ghost use Rattle.dsv_report.specs.Refusals.{code_of, place_of, detail_head, detail_name};
 ghost use Rattle.dsv_report.specs.Refusals.{file_text, quant_code, quant_text};
 ghost use Rattle.dsv_report.specs.Refusals.{quant_text_after, input_code, input_text};
+ghost use Rattle.dsv_report.specs.Refusals.{inputs_text};
 
 use crate::fragments::{Fragment, put_fragments};
-use dsv_base::{Failed, Sink};
+use crate::lines::put_number_line;
+use crate::stop::InputsFault;
+use dsv_base::{Failed, Sink, put_all};
+use dsv_input_file::InputsRefusal;
 use dsv_names::Named;
 use dsv_quantiser::QuantRefusal;
 use dsv_reader::FileRefusal;
@@ -172,4 +176,18 @@ pub fn put_input_range<K: Sink>(sink: &mut K, index: u32, value: &i128) -> Resul
             Fragment::Bytes(b"\n"),
         ],
     )
+}
+
+/// Writes why a file of inputs is refused.
+pub(crate) fn put_inputs_refusal<K: Sink>(sink: &mut K, fault: InputsFault) -> Result<(), Failed>
+    ensures { Writes (K.seen sink.old) (K.seen sink.new) result (inputs_text fault) }
+{
+    match fault {
+        InputsFault::Text(InputsRefusal::Number { line }) => {
+            put_number_line(sink, b"INPUTS REFUSED 81 NUMBER line ", line)
+        }
+        InputsFault::Text(InputsRefusal::Many) => put_all(sink, b"INPUTS REFUSED 82 MANY\n"),
+        InputsFault::Text(InputsRefusal::NoNumbers) => put_all(sink, b"INPUTS REFUSED 83 NONE\n"),
+        InputsFault::TooLong => put_all(sink, b"INPUTS REFUSED 84 TOO_LONG\n"),
+    }
 }

@@ -1,7 +1,8 @@
 // Writes the text of an answer, with no memory.
 #![tactic(auto, using(dsv_algebra::proofs::Casts::casts))]
 
-ghost use Rattle.std.specs.Prelude.{◌≡◌, cond, length, map, filter, option_map};
+ghost use Rattle.std.specs.Prelude.{◌≡◌, ◌++◌, cond, length, map, filter, option_map};
+ghost use Rattle.std.specs.List.{flat_map};
 ghost use Rattle.dsv_base.specs.Taking.{Writes};
 ghost use Rattle.dsv_system.specs.RowViews.{row_of};
 ghost use Rattle.dsv_report.specs.Gains.{too_deep_text};
@@ -11,11 +12,11 @@ ghost use Rattle.dsv_report.specs.Report as report;
 
 use crate::answers::Answer;
 use crate::cascades::{put_forms, put_section_tables};
-use crate::certificates::put_checked;
+use crate::certificates::put_checked_job;
 use crate::ellipsoids::{put_in_ellipsoid, put_no_offer_cause};
 use crate::forms::{put_fall, put_form, put_kept_away, put_numbers};
 use crate::fragments::{Fragment, put_fragments};
-use crate::gains::{put_measure, put_out_of_range};
+use crate::gains::{put_measure, put_out_of_range, put_shown_error};
 use crate::headings::{Heading, put_heading};
 use crate::lines::{put_number_line, put_numbered};
 use crate::states::put_no_form_cause;
@@ -239,6 +240,28 @@ fn put_samples<K: Sink>(sink: &mut K, rows: &[Row]) -> Result<(), Failed>
     Ok(())
 }
 
+/// Writes the output of a sample alone.
+fn put_output_line<K: Sink>(sink: &mut K, row: &Row) -> Result<(), Failed>
+    ensures { Writes (K.seen sink.old) (K.seen sink.new) result
+        (report.output_text (row_of row.now)) }
+{
+    put_fragments(
+        sink,
+        &[Fragment::Number(row.y.into()), Fragment::Bytes(b"\n")],
+    )
+}
+
+/// Writes the outputs of samples alone, one a line.
+fn put_outputs<K: Sink>(sink: &mut K, rows: &[Row]) -> Result<(), Failed>
+    ensures { Writes (K.seen sink.old) (K.seen sink.new) result
+        (flat_map report.output_text (map row_of rows.now)) }
+{
+    for row in rows {
+        put_output_line(sink, row)?;
+    }
+    Ok(())
+}
+
 /// Writes that a search gave up.
 fn put_spent<K: Sink>(sink: &mut K, conflicts: u64) -> Result<(), Failed>
     ensures { Writes (K.seen sink.old) (K.seen sink.new) result (report.spent_text conflicts) }
@@ -253,7 +276,7 @@ fn put_too_deep<K: Sink>(sink: &mut K, depth: u64) -> Result<(), Failed>
     put_number_line(sink, b"cause DEPTH ", depth)
 }
 
-/// Writes what stands after an answer's heading.
+/// Writes what stands after an answer's heading, and after the lines that tell words.
 fn put_body<K: Sink>(sink: &mut K, answer: &Answer) -> Result<(), Failed>
     requires { HasPlaces answer.now }
     ensures { Writes (K.seen sink.old) (K.seen sink.new) result (report.body_text answer.now) }
@@ -291,23 +314,57 @@ fn put_body<K: Sink>(sink: &mut K, answer: &Answer) -> Result<(), Failed>
         Answer::Spent { log } => put_spent(sink, log.len() as u64),
         Answer::FormulaText(formula) => write_dimacs(formula, sink),
         Answer::Simulated(rows) => put_samples(sink, rows.as_slice()),
+        Answer::Outputs(rows) => put_outputs(sink, rows.as_slice()),
+        Answer::Words => put_all(sink, b""),
         Answer::Generated(found) => put_tally(sink, found),
-        Answer::Checked { certified, error } => put_checked(sink, certified, *error),
+        Answer::Checked { error, .. } => put_shown_error(sink, *error),
     }
 }
 
-/// Writes the text of an answer to a job, or to arguments that ask for none. It takes no memory.
+/// Writes what a certificate shows that passed its check.
+fn put_certified<K: Sink>(sink: &mut K, answer: &Answer) -> Result<(), Failed>
+    ensures { Writes (K.seen sink.old) (K.seen sink.new) result
+        (report.certified_text answer.now) }
+{
+    match answer {
+        Answer::Checked { certified, .. } => put_checked_job(sink, certified),
+        _ => put_all(sink, b""),
+    }
+}
+
+/// Writes what stands first in an answer's text.
+fn put_opening<K: Sink>(sink: &mut K, asked: Option<Heading>, answer: &Answer) -> Result<(), Failed>
+    ensures { Writes (K.seen sink.old) (K.seen sink.new) result
+        (report.opening (option_map heading_view asked.entry) answer.now) }
+{
+    put_heading(sink, verdict_of(answer), asked)?;
+    put_certified(sink, answer)
+}
+
+/// Writes the lines that tell words, and what stands after them.
+fn put_rest<K: Sink>(sink: &mut K, lines: &[u8], answer: &Answer) -> Result<(), Failed>
+    requires { HasPlaces answer.now }
+    ensures { Writes (K.seen sink.old) (K.seen sink.new) result
+        (lines.now ++ report.body_text answer.now) }
+{
+    put_all(sink, lines)?;
+    put_body(sink, answer)
+}
+
+/// Writes the text of an answer to a job, or to arguments that ask for none, with these lines that
+/// tell words. It takes no memory.
 pub(crate) fn put_answer<K: Sink>(
     sink: &mut K,
     asked: Option<Heading>,
+    lines: &[u8],
     answer: &Answer,
 ) -> Result<(), Failed>
     requires { HasPlaces answer.now }
     ensures { Writes (K.seen sink.old) (K.seen sink.new) result
-        (report.answer_text (option_map heading_view asked.entry) answer.now) }
+        (report.answer_text (option_map heading_view asked.entry) lines.now answer.now) }
 {
-    put_heading(sink, verdict_of(answer), asked)?;
-    put_body(sink, answer)
+    put_opening(sink, asked, answer)?;
+    put_rest(sink, lines, answer)
 }
 
 /// The status of an answer that was written, or of what was written where there is none.

@@ -6,6 +6,7 @@ use dsv_base::NoMemory;
 use dsv_cascade::CascadeRefusal;
 use dsv_certfile::{CertRefusal, CheckFault, TextFault, TextRefusal};
 use dsv_ellipsoid::EllipsoidRefusal;
+use dsv_input_file::{InputsEnd, InputsRefusal};
 use dsv_loop::{LoopRefusal, LoopStop};
 use dsv_quantiser::QuantRefusal;
 use dsv_reader::FileRefusal;
@@ -21,6 +22,8 @@ pub enum WhichFile {
     Section(u32),
     /// That of the plant of a loop.
     Plant,
+    /// That of the inputs of a run.
+    Inputs,
 }
 
 /// What is wrong with a certificate.
@@ -31,6 +34,15 @@ pub enum CertificateFault {
     /// The line's claim isn't so.
     Check(CheckFault),
     /// The file has over 64 MiB.
+    TooLong,
+}
+
+/// What is wrong with a file of inputs.
+#[derive(Clone, Copy, Debug, PartialEq, Eq)]
+pub enum InputsFault {
+    /// The text isn't one of inputs.
+    Text(InputsRefusal),
+    /// The file has over 1 MiB.
     TooLong,
 }
 
@@ -81,6 +93,8 @@ pub enum Stop {
     EllipsoidText(TextRefusal),
     /// The first test that refuses an ellipsoid.
     EllipsoidRefused(EllipsoidRefusal),
+    /// What is wrong with the file of a run's inputs.
+    InputsRefused(InputsFault),
     /// The file couldn't be read.
     ReadFault(WhichFile),
     NoMemory,
@@ -165,6 +179,20 @@ impl From<TextRefusal> for Stop {
 
     fn from(refusal: TextRefusal) -> Self {
         Stop::EllipsoidText(refusal)
+    }
+}
+
+impl From<InputsEnd> for Stop {
+    ghost use Rattle.std.specs.Prelude.{◌≡◌};
+    ghost use Rattle.dsv_report.specs.Stops.{stop_of_inputs};
+
+    ghost from_gives = { λ why e. e ≡ stop_of_inputs why };
+
+    fn from(why: InputsEnd) -> Self {
+        match why {
+            InputsEnd::Refused(refusal) => Stop::InputsRefused(InputsFault::Text(refusal)),
+            InputsEnd::NoMemory => Stop::NoMemory,
+        }
     }
 }
 

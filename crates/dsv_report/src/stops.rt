@@ -9,7 +9,7 @@ use crate::certificates::put_certificate_refusal;
 use crate::ellipsoids::{put_ellipsoid_refusal, put_offer_fault};
 use crate::lines::put_number_line;
 use crate::loops::{put_loop_refusal, put_plant};
-use crate::refusals::{put_file_refusal, put_input_range, put_quant_refusal};
+use crate::refusals::{put_file_refusal, put_input_range, put_inputs_refusal, put_quant_refusal};
 use crate::states::{put_state_quant_refusal, put_state_refusal};
 use crate::stop::{Stop, WhichFile};
 use dsv_base::{Failed, Sink, put_all};
@@ -29,7 +29,8 @@ pub(crate) fn stop_status(stop: &Stop) -> u8
         | Stop::LoopRefused(_)
         | Stop::StateRefused(_)
         | Stop::StateQuantRefused(_)
-        | Stop::InputRange { .. } => 2,
+        | Stop::InputRange { .. }
+        | Stop::InputsRefused(_) => 2,
         Stop::ReadFault(_) => 3,
         Stop::NoMemory => 5,
         Stop::JobSize { .. } => 6,
@@ -44,7 +45,7 @@ fn put_place<K: Sink>(sink: &mut K, which: WhichFile) -> Result<(), Failed>
     match which {
         WhichFile::Section(section) => put_section(sink, u64::from(section)),
         WhichFile::Plant => put_plant(sink),
-        WhichFile::Controller | WhichFile::Certificate => put_all(sink, b""),
+        WhichFile::Controller | WhichFile::Certificate | WhichFile::Inputs => put_all(sink, b""),
     }
 }
 
@@ -103,6 +104,8 @@ pub(crate) fn put_stop<K: Sink>(sink: &mut K, stop: &Stop) -> Result<(), Failed>
             put_number_line(sink, b"READ FAULT SECTION ", (*section).into())
         }
         Stop::ReadFault(WhichFile::Plant) => put_all(sink, b"READ FAULT PLANT\n"),
+        Stop::ReadFault(WhichFile::Inputs) => put_all(sink, b"READ FAULT INPUTS\n"),
+        Stop::InputsRefused(fault) => put_inputs_refusal(sink, *fault),
         Stop::NoMemory => put_all(sink, b"NO MEMORY\n"),
     }
 }

@@ -158,6 +158,8 @@ pub(crate) fn verdict_of(answer: &Answer) -> Verdict
         Answer::Simulated(_) => Verdict::Simulation,
         Answer::FoundEllipsoid(_)
         | Answer::FormulaText(_)
+        | Answer::Outputs(_)
+        | Answer::Words
         | Answer::Generated(_)
         | Answer::Checked { .. } => Verdict::Plain,
     }

@@ -28,19 +28,20 @@ returns-in-Ok-Asks-clause-run g c =
     let to = g.K.Sink.seen put.new.sink in
     let before = g.F.Files.seen c.args.files.now in
     let after = g.F.Files.seen found.new.files in
-    let written = subst (λ asked. IsWritten from to put.result.status (status_of found.result.outcome) (output_of asked found.result.words found.result.outcome)) heading p.written in
+    let written = subst (λ asked. IsWritten from to put.result.status (status_of found.result.outcome) (output_of asked found.result.lines found.result.words found.result.outcome)) heading p.written in
     let typed = subst (λ asked. IfWhole put.result.status (IfSome (certificate_written asked found.result.words found.result.outcome) IsTyped)) heading p.typed in
     let request = Some (request_view c.in-Ok-Asks.request) in
     let sets = c.args.proposers.now.sets.items in
     let left = found.new.proposers.sets.items in
     let AreAsked : (QuantisedView → Type 0) → Type 0 = λ becomes. AreSetsAsked (λ b. b.ptr) (λ b. (goal.InvariantProposer-dyn g (b.vtable, b.value)).last b.value) (λ b shape. (goal.InvariantProposer-dyn g (b.vtable, b.value)).to_come b.value shape) becomes sets left put.result.outcome in
-    let beside : IsSaidBeside before after request put.result.outcome put.result.states put.result.words AreAsked = rw p.outcome (rw p.words (rw p.states f.row)) in
+    let beside : IsSaidBeside before after request put.result.outcome put.result.states put.result.words put.result.lines AreAsked = rw p.outcome (rw p.words (rw p.states (rw p.lines f.row))) in
     done_by before after from to arguments request None put.result AreAsked e none (record {
       answered = beside.0;
       said = beside.1;
-      sets = beside.2;
+      lines = beside.2;
+      sets = beside.3;
       kept = f.kept;
-      written = rw p.outcome (rw p.words (rw p.states written));
+      written = rw p.outcome (rw p.words (rw p.states (rw p.lines written)));
       typed = rw p.outcome (rw p.words (rw p.states typed));
     })
 
@@ -74,7 +75,7 @@ returns-in-Ok-Explains-clause-run g c =
     let sets = c.args.proposers.now.sets.items in
     let found = c.put_explained.result in
     asks_why (g.F.Files.seen c.args.files.now) (g.K.Sink.seen c.args.sink.now) (g.K.Sink.seen c.put_explained.new.sink) arguments (reason_view c.in-Ok-Explains.reason) found (λ becomes. AreSetsAsked (λ b. b.ptr) (λ b. (goal.InvariantProposer-dyn g (b.vtable, b.value)).last b.value) (λ b shape. (goal.InvariantProposer-dyn g (b.vtable, b.value)).to_come b.value shape) becomes sets sets found.outcome)
-    e n p.outcome p.words p.states p.written (rw p.outcome (sets_unasked (λ b. b.ptr) (λ b. (goal.InvariantProposer-dyn g (b.vtable, b.value)).last b.value) (λ b shape. (goal.InvariantProposer-dyn g (b.vtable, b.value)).to_come b.value shape) (λ q. ⊥) sets (Err stop.Usage) tt))
+    e n p.outcome p.words p.states p.lines p.written (rw p.outcome (sets_unasked (λ b. b.ptr) (λ b. (goal.InvariantProposer-dyn g (b.vtable, b.value)).last b.value) (λ b shape. (goal.InvariantProposer-dyn g (b.vtable, b.value)).to_come b.value shape) (λ q. ⊥) sets (Err stop.Usage) tt))
 
 pub returns-in-Ok-AsksNothing-clause-run : goal.returns-in-Ok-AsksNothing-clause-run
 returns-in-Ok-AsksNothing-clause-run g c =
@@ -85,4 +86,4 @@ returns-in-Ok-AsksNothing-clause-run g c =
     let sets = c.args.proposers.now.sets.items in
     let found = c.put_refusal.result in
     asks_nothing (g.F.Files.seen c.args.files.now) (g.K.Sink.seen c.args.sink.now) (g.K.Sink.seen c.put_refusal.new.sink) arguments found (λ becomes. AreSetsAsked (λ b. b.ptr) (λ b. (goal.InvariantProposer-dyn g (b.vtable, b.value)).last b.value) (λ b shape. (goal.InvariantProposer-dyn g (b.vtable, b.value)).to_come b.value shape) becomes sets sets found.outcome)
-    e n p.outcome p.words p.states p.written (rw p.outcome (sets_unasked (λ b. b.ptr) (λ b. (goal.InvariantProposer-dyn g (b.vtable, b.value)).last b.value) (λ b shape. (goal.InvariantProposer-dyn g (b.vtable, b.value)).to_come b.value shape) (λ q. ⊥) sets (Err stop.Usage) tt))
+    e n p.outcome p.words p.states p.lines p.written (rw p.outcome (sets_unasked (λ b. b.ptr) (λ b. (goal.InvariantProposer-dyn g (b.vtable, b.value)).last b.value) (λ b shape. (goal.InvariantProposer-dyn g (b.vtable, b.value)).to_come b.value shape) (λ q. ⊥) sets (Err stop.Usage) tt))

@@ -1,10 +1,12 @@
-use Rattle.std.proofs.Common.{rules, ◌≡◌, ◌<◌, ◌≤◌, ◌+◌, ℕ, suc, List, [], Bor, get_or, length, map, refl, subst, arith}
+use Rattle.std.proofs.Common.{rules, ◌≡◌, ◌<◌, ◌≤◌, ◌+◌, ℕ, suc, List, [], ◌∷◌, Bor, get_or, length, take, map, refl, sym, subst, arith}
 use Rattle.std.specs.Prelude.{Err}
-use Rattle.std.proofs.lemmas.List.{length-map}
+use Rattle.std.proofs.lemmas.List.{length-map, take_all}
 use Rattle.std.proofs.lemmas.Option.{slice_get_read}
 use Rattle.dsv_files.proofs.Pairwise.{pairs_more}
 use Rattle.dsv_files.proofs.LaterFiles.{later_unread, kept_on, named}
 use Rattle.dsv_files.proofs.FileBytes.{file_earlier, text_earlier}
+use Rattle.dsv_files.proofs.LoggedDigests.{logged_more, logged_earlier, sections_more}
+use Rattle.dsv_files.specs.Digests.{AreLogged, section_named}
 use Rattle.dsv_files.proofs.section_files.read_later.Goals as goal
 use Rattle.dsv_files.specs.Files.{a_controller, a_section, IsFileOf, IsUnread}
 
@@ -44,4 +46,14 @@ loop-i-preserved g c =
           (named c.args.names.now i no_name inside) c.loop-i.invariant.0 (text_earlier a_controller old then name.now c.in_ok-controller.controller c.loop-i.invariant.1 c.in_ok-controller.ensures.controller)),
       kept_on old then new c.loop-i.invariant.1 c.read_controller.ensures.kept,
       omega (arith, c.loop-i.invariant.2, came),
+      subst (λ files. AreLogged old files c.args.digests.now c.read_controller.new.digests) (sym (sections_more (texts c.args.names.now) i name.now long (named c.args.names.now i no_name inside)))
+          (logged_more old (map section_named (take i (texts c.args.names.now))) (section_named name.now ∷ []) c.args.digests.now c.loop-i.digests c.read_controller.new.digests c.loop-i.invariant.3
+          (logged_earlier old then (section_named name.now ∷ []) c.loop-i.digests c.read_controller.new.digests c.loop-i.invariant.1 c.in_ok-controller.ensures.digest)),
     )
+
+pub returns-clause-digests : goal.returns-clause-digests
+returns-clause-digests g c =
+    let names = texts c.args.names.now in
+    let end : length c.args.names.now ≤ c.loop-i.i = search rules in
+    let all : length names ≤ c.loop-i.i = omega (arith, end, length-map c.args.names.now (λ (n : Bor (List ℕ)). n.now)) in
+    rw (take_all c.loop-i.i names all) at c.loop-i.invariant.3

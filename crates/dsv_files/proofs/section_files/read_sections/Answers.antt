@@ -1,9 +1,11 @@
-use Rattle.std.proofs.Common.{rules, ◌≡◌, ℕ, List, Bor, map, inr, arith}
+use Rattle.std.proofs.Common.{rules, ◌≡◌, ℕ, List, [], ◌∷◌, Bor, map, inr, arith}
 use Rattle.std.specs.Prelude.{Err}
 use Rattle.std.proofs.lemmas.List.{length-map}
 use Rattle.dsv_files.specs.JobTexts.{AreControllers, IsLaterUnread}
 use Rattle.dsv_files.proofs.Pairwise.{pairs_long}
 use Rattle.dsv_files.proofs.LaterFiles.{files_earlier, later_earlier}
+use Rattle.dsv_files.proofs.LoggedDigests.{logged_more, logged_earlier}
+use Rattle.dsv_files.specs.Digests.{AreLogged, section_named}
 use Rattle.dsv_files.proofs.section_files.read_sections.Goals as goal
 use Rattle.dsv_files.specs.Files.{a_controller, IsFileOf}
 
@@ -34,3 +36,12 @@ invariant_of-result g c =
     let then = g.F.Files.seen c.read_controller.new.files in
     let slice = c.as_slice.result.now in
     omega (arith, pairs_long (IsFileOf a_controller then) (texts slice) c.in_ok-later.later.items c.in_ok-later.ensures.controllers, length-map slice (λ (n : Bor (List ℕ)). n.now), c.as_slice.ensures.fits)
+
+pub returns-clause-digests : goal.returns-clause-digests
+returns-clause-digests g c =
+    let old = g.F.Files.seen c.args.files.now in
+    let then = g.F.Files.seen c.read_controller.new.files in
+    let others = map section_named (texts c.args.later.now.items) in
+    let later : AreLogged then others c.read_controller.new.digests c.read_later.new.digests = rw c.as_slice.ensures.value at c.in_ok-later.ensures.digests in
+    logged_more old (section_named c.args.first.now ∷ []) others c.args.digests.now c.read_controller.new.digests c.read_later.new.digests c.in_ok-controller.ensures.digest
+    (logged_earlier old then others c.read_controller.new.digests c.read_later.new.digests c.read_controller.ensures.kept later)
