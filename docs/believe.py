@@ -194,6 +194,10 @@ PAGE = (
      "IsGeneratedFrom"),
     ("What is written, and what stays", "The output, the status, and the files afterwards.",
      "IsWritten dsv_report:output_of answer_text stop_text IfWhole IsTyped AreKept"),
+    ("The lines that tell words",
+     "What a report with `--words` says of the files and of the coefficients.",
+     "AreLines AreLinesOf AreLinesOfCheck TellsWords told_by IsDigestOf named_by named_by_task dsv_word_lines:format_line dsv_word_lines:range_line is_cut "
+     "coefficient_lines cascade_lines dsv_word_lines:state_lines cost_line inputs_in"),
     ("Proposers", "What becomes of the lists of objects that offer forms and sets.",
      "IsAsked AreSetsAsked Wants Decides AsksSchurCohn Seeks IfNoForm is_low"),
     ("Four laws over the table", "What holds of all answers together.",

@@ -38,7 +38,7 @@ abbrev pub timing_line : Task → JobTexts → List ℕ
 timing_line checks_time (of_one c) = cost_line c.costs
 timing_line task texts = []
 
--- all of them
+-- the digests, the words, and what timing takes of the file, one after another
 abbrev pub told_by : List DigestView → JobTexts → JobWords → Task → List ℕ
 told_by digests texts words task =
     flat_map digest_text digests ++ (word_lines texts words ++ timing_line task texts)

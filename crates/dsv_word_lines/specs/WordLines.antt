@@ -76,6 +76,7 @@ input_line c q = range_line q.xlo q.xhi (is_cut q.format c.min c.max q.xlo q.xhi
 abbrev pub head_lines : ControllerView → QuantisedView → List ℕ
 head_lines c q = format_line q.format q.wide ++ input_line c q
 
+-- the format, the range of the inputs, and the coefficients
 abbrev pub controller_lines : ControllerView → QuantisedView → List ℕ
 controller_lines c q = head_lines c q ++ coefficient_lines q
 
@@ -121,5 +122,6 @@ lane_lines s =
 abbrev pub matrix_lines : StateView → List ℕ
 matrix_lines s = row_lines s.a ++ lane_lines s
 
+-- the format, the range of the inputs, and A row by row, b, c and d
 abbrev pub state_lines : StateFileView → StateView → List ℕ
 state_lines file s = state_head_lines file s ++ matrix_lines s
