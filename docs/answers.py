@@ -502,7 +502,8 @@ def lines_of(kind, runs):
     yield "\n" + filled(f"What to do: {kind.next}")
     if kind.case:
         yield "\n    $ " + command_of(kind.case)
-        yield textwrap.indent(runs[kind.case][0].rstrip("\n"), "    ")
+        told = re.sub(r"(?m)^(sha256 \w+ )(.*)$", lambda line: line[1] + place_of(line[2]), runs[kind.case][0])
+        yield textwrap.indent(told.rstrip("\n"), "    ")
     else:
         yield "\n" + kind.why
 
