@@ -1,0 +1,11 @@
+pub mod Whole
+pub mod NodeTexts
+pub mod Readings
+pub mod PlanTypes
+pub mod PlanLocals
+pub mod LineTexts
+pub mod FitLines
+pub mod Powers
+pub mod FunctionTexts
+pub mod UnitLemmas
+pub mod Spellings

@@ -1,0 +1,7 @@
+use Rattle.dsv_base.specs.Taking.{Wrote}
+use Rattle.dsv_ctext.specs.Plans.{load_line}
+use Rattle.dsv_ctext.specs.ProgramTexts.{lines_from}
+use Rattle.dsv_ctext.proofs.lines.put_loads.Given as goal
+
+abbrev pub invariant-loop-k : goal.invariant-loop-k
+invariant-loop-k g l = Wrote (g.K.Sink.seen l.fn.sink) (g.K.Sink.seen l.sink) (lines_from (load_line l.names l.word) 0 l.k)
