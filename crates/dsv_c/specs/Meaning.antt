@@ -172,7 +172,7 @@ abbrev pub call_result : Function → ℤ → Option CValue
 call_result f v =
     option_and_then
     (λ parameter. option_and_then (λ s. conversion f.result (value_of no_calls s f.value))
-        (after_declarations no_calls f.locals (scope (parameter ∷ []) [])))
+    (after_declarations no_calls f.locals (scope (parameter ∷ []) [])))
     (in_type f.parameter v)
 
 abbrev pub is_same_type : CType → CType → Bool

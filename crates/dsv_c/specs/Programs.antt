@@ -230,7 +230,7 @@ abbrev pub program_of : Net → Program
 program_of net = record {
   word = word_type net.format;
   functions =
-    functions_for net.format (helpers_from net.format net.nodes [] [] (first_local net));
+      functions_for net.format (helpers_from net.format net.nodes [] [] (first_local net));
   start = stores_from 0 (map (λ k. Constant (pos 0)) net.next);
   locals = loads_from (word_type net.format) 0 (length net.next)
       ++ locals_from net.format net.nodes [] [] (first_local net);

@@ -194,8 +194,10 @@ abbrev pub load_line : Names → CType → ℕ → List ℕ
 load_line names type k = declaration_line names (k + 1) (record { type = type; value = Member k })
 
 abbrev pub store_of : Names → Net → ℕ → List ℕ
-store_of names net k = store_line names (record { member = k; value = (code_at (codes_of net)
-    (slice_index net.next k)).expr })
+store_of names net k = store_line names (record {
+  member = k;
+  value = (code_at (codes_of net) (slice_index net.next k)).expr;
+})
 
 abbrev pub init_line : Names → ℕ → List ℕ
 init_line names k = store_line names (record { member = k; value = Constant (pos 0) })

@@ -61,7 +61,7 @@ fn is_called(plan: &Plan, fits: bool, wanted: CType) -> bool
     false
 }
 
-/// Writes a helper function, where it is called.
+/// Writes a helper function, if a node calls it.
 fn put_part<K: Sink>(sink: &mut K, plan: &Plan, fits: bool, c_type: CType) -> Result<(), Failed>
     requires plan { IsPlan plan.now.net.now plan.now.types.now plan.now.locals.now }
     ensures { Writes (K.seen sink.old) (K.seen sink.new) result
@@ -128,7 +128,7 @@ fn put_member_lines<K: Sink>(
     Ok(())
 }
 
-/// Writes a member where there is none.
+/// Writes a member if there would be none.
 fn put_none_line<K: Sink>(sink: &mut K, many: u32) -> Result<(), Failed>
     ensures { Writes (K.seen sink.old) (K.seen sink.new) result (none_line many) }
 {

@@ -16,8 +16,10 @@ ghost use Rattle.dsv_netlist.specs.Conditions.{NamesBelow, ReadsBelow};
 ghost use Rattle.std.specs.List.{All};
 
 use crate::fragments::{Fragment, put_fragments};
-use crate::names::{Names, cast_text, left_parenthesis, put_local, put_product_head};
-use crate::names::{rounded_head, right_parenthesis};
+use crate::names::{
+    Names, cast_text, left_parenthesis, put_local, put_product_head, right_parenthesis,
+    rounded_head,
+};
 use dsv_base::{Failed, Sink, put_all};
 use dsv_c::{CType, wider_type};
 use dsv_netlist::{Netlist, Node};
