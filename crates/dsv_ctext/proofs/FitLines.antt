@@ -86,29 +86,29 @@ output_below net w = let e = w.output in names_word-below net.nodes net.output (
 around : (h l n s t : List ℕ) → h ++ ((l ++ n) ++ (s ++ t)) ≡ h ++ (l ++ (n ++ (s ++ t)))
 around h l n s t = ap (λ (x : List ℕ). h ++ x) (append_assoc l n (s ++ t))
 
-pub step_written : (names : Names) (net : Net) → IsNetlist net → step_text names (program_of net)
-    ≡ step_head names (word_type net.format) ++ (lines_from (load_line names (word_type net.format)) 0 (length net.next) ++ (lines_from (node_line names net) 0 (length net.nodes)
+pub step_written : (names : Names) (net : Net) → IsNetlist net → step_text names (length net.next) (program_of net)
+    ≡ step_head names (word_type net.format) (length net.next) ++ (lines_from (load_line names (word_type net.format)) 0 (length net.next) ++ (lines_from (node_line names net) 0 (length net.nodes)
     ++ (lines_from (store_of names net) 0 (length net.next) ++ step_tail names (code_at (codes_of net) net.output).expr)))
 step_written names net w =
-    let h = step_head names (word_type net.format) in
+    let h = step_head names (word_type net.format) (length net.next) in
     let t = step_tail names (code_at (codes_of net) net.output).expr in
     ap (λ (x : List ℕ). h ++ (x ++ (flat_map (store_line names) (program_of net).stores ++ t))) (locals_text names net w)
     ∙ (ap (λ (x : List ℕ). h ++ ((lines_from (load_line names (word_type net.format)) 0 (length net.next) ++ lines_from (node_line names net) 0 (length net.nodes)) ++ (x ++ t))) (stores_text names net)
     ∙ around h (lines_from (load_line names (word_type net.format)) 0 (length net.next)) (lines_from (node_line names net) 0 (length net.nodes)) (lines_from (store_of names net) 0 (length net.next)) t)
 
-pub init_written : (names : Names) (net : Net) → init_text names (program_of net) ≡ init_head names ++ (lines_from (init_line names) 0 (length net.next) ++ init_tail)
-init_written names net = ap (λ (x : List ℕ). init_head names ++ (x ++ init_tail)) (start_text names net)
+pub init_written : (names : Names) (net : Net) → init_text names (length net.next) (program_of net) ≡ init_head names (length net.next) ++ (lines_from (init_line names) 0 (length net.next) ++ init_tail)
+init_written names net = ap (λ (x : List ℕ). init_head names (length net.next) ++ (x ++ init_tail)) (start_text names net)
 
 -- as the writers see them
-pub step_written_as : (names : Names) (net : Net) (word : CType) (many : ℕ) → IsNetlist net → word ≡ word_type net.format → many ≡ length net.next → step_text names (program_of net)
-    ≡ step_head names word ++ (lines_from (load_line names word) 0 many ++ (lines_from (node_line names net) 0 (length net.nodes) ++ (lines_from (store_of names net) 0 (length net.next) ++ step_tail names (code_at (codes_of net) net.output).expr)))
+pub step_written_as : (names : Names) (net : Net) (word : CType) (many : ℕ) → IsNetlist net → word ≡ word_type net.format → many ≡ length net.next → step_text names (length net.next) (program_of net)
+    ≡ step_head names word many ++ (lines_from (load_line names word) 0 many ++ (lines_from (node_line names net) 0 (length net.nodes) ++ (lines_from (store_of names net) 0 (length net.next) ++ step_tail names (code_at (codes_of net) net.output).expr)))
 step_written_as names net word many w e m =
     step_written names net w
-    ∙ (ap (λ (t : CType). step_head names t ++ (lines_from (load_line names t) 0 (length net.next) ++ (lines_from (node_line names net) 0 (length net.nodes) ++ (lines_from (store_of names net) 0 (length net.next) ++ step_tail names (code_at (codes_of net) net.output).expr)))) (sym e)
-    ∙ ap (λ (k : ℕ). step_head names word ++ (lines_from (load_line names word) 0 k ++ (lines_from (node_line names net) 0 (length net.nodes) ++ (lines_from (store_of names net) 0 (length net.next) ++ step_tail names (code_at (codes_of net) net.output).expr)))) (sym m))
+    ∙ (ap (λ (t : CType). step_head names t (length net.next) ++ (lines_from (load_line names t) 0 (length net.next) ++ (lines_from (node_line names net) 0 (length net.nodes) ++ (lines_from (store_of names net) 0 (length net.next) ++ step_tail names (code_at (codes_of net) net.output).expr)))) (sym e)
+    ∙ ap (λ (k : ℕ). step_head names word k ++ (lines_from (load_line names word) 0 k ++ (lines_from (node_line names net) 0 (length net.nodes) ++ (lines_from (store_of names net) 0 (length net.next) ++ step_tail names (code_at (codes_of net) net.output).expr)))) (sym m))
 
-pub init_written_as : (names : Names) (net : Net) (many : ℕ) → many ≡ length net.next → init_text names (program_of net) ≡ init_head names ++ (lines_from (init_line names) 0 many ++ init_tail)
-init_written_as names net many m = init_written names net ∙ ap (λ (k : ℕ). init_head names ++ (lines_from (init_line names) 0 k ++ init_tail)) (sym m)
+pub init_written_as : (names : Names) (net : Net) (many : ℕ) → many ≡ length net.next → init_text names (length net.next) (program_of net) ≡ init_head names many ++ (lines_from (init_line names) 0 many ++ init_tail)
+init_written_as names net many m = init_written names net ∙ ap (λ (k : ℕ). init_head names k ++ (lines_from (init_line names) 0 k ++ init_tail)) (sym m)
 
 pub tail_written : (names : Names) (net : Net) (k : ℕ) → k ≡ net.output → step_tail names (code_at (codes_of net) net.output).expr ≡ codes "    return " ++ (code_text names false (code_at (codes_of net) k).expr ++ step_end)
 tail_written names net k e = ap (λ (m : ℕ). step_tail names (code_at (codes_of net) m).expr) (sym e)

@@ -89,7 +89,7 @@ pub functions_written_as : (net : Net) → functions_text (program_of net) ≡ t
 functions_written_as net = functions_written net ∙ ap (λ (x : List ℕ). type_parts net Int ++ (type_parts net Int32 ++ x)) (append-nil (type_parts net Int64))
 
 pub unit_written : (names : Names) (net : Net) (word : CType) (many : ℕ) → word ≡ word_type net.format → many ≡ length net.next → unit_text names (length net.next) (program_of net)
-    ≡ struct_text names word many ++ (functions_text (program_of net) ++ (init_text names (program_of net) ++ ((10 ∷ []) ++ step_text names (program_of net))))
+    ≡ struct_text names word many ++ (functions_text (program_of net) ++ (init_text names (length net.next) (program_of net) ++ ((10 ∷ []) ++ step_text names (length net.next) (program_of net))))
 unit_written names net word many e m =
-    let rest = functions_text (program_of net) ++ (init_text names (program_of net) ++ ((10 ∷ []) ++ step_text names (program_of net))) in
+    let rest = functions_text (program_of net) ++ (init_text names (length net.next) (program_of net) ++ ((10 ∷ []) ++ step_text names (length net.next) (program_of net))) in
     ap (λ (t : CType). struct_text names t (length net.next) ++ rest) (sym e) ∙ ap (λ (k : ℕ). struct_text names word k ++ rest) (sym m)

@@ -43,13 +43,18 @@ abbrev pub store_line : Names → Store → List ℕ
 store_line names s = store_head names s.member ++ (code_text names false s.value ++ line_end)
 
 -- ---- functions
+-- a struct without registers has a member `none`, which is stored so that s is used
+abbrev pub none_store : ℕ → List ℕ
+none_store many = if many == 0 then codes "    s->none = 0;" ++ 10 ∷ [] else []
+
 abbrev pub step_head_end : List ℕ
 step_head_end = codes " x)" ++ 10 ∷ (codes "{" ++ 10 ∷ [])
 
 -- word NAME_step(NAME_state *s, word x)
-abbrev pub step_head : Names → CType → List ℕ
-step_head names word = joined (type_name word ∷ codes " " ∷ names.prefix.now ∷ codes "_step("
-    ∷ names.prefix.now ∷ codes "_state *s, " ∷ type_name word ∷ step_head_end ∷ [])
+abbrev pub step_head : Names → CType → ℕ → List ℕ
+step_head names word many = joined (type_name word ∷ codes " " ∷ names.prefix.now ∷ codes "_step("
+    ∷ names.prefix.now ∷ codes "_state *s, " ∷ type_name word ∷ step_head_end ∷ none_store many
+    ∷ [])
 
 abbrev pub step_end : List ℕ
 step_end = codes ";" ++ 10 ∷ (codes "}" ++ 10 ∷ [])
@@ -58,23 +63,23 @@ abbrev pub step_tail : Names → Expr → List ℕ
 step_tail names value = codes "    return " ++ (code_text names false value ++ step_end)
 
 -- word step(state *s, word x) { locals stores return value; }
-abbrev pub step_text : Names → Program → List ℕ
-step_text names p = step_head names p.word ++ (declarations_text names 1 p.locals
+abbrev pub step_text : Names → ℕ → Program → List ℕ
+step_text names many p = step_head names p.word many ++ (declarations_text names 1 p.locals
     ++ (flat_map (store_line names) p.stores ++ step_tail names p.value))
 
 -- void init(state *s) { start }
 abbrev pub init_head_end : List ℕ
 init_head_end = codes "_state *s)" ++ 10 ∷ (codes "{" ++ 10 ∷ [])
 
-abbrev pub init_head : Names → List ℕ
-init_head names = joined (codes "void " ∷ names.prefix.now ∷ codes "_init("
-    ∷ names.prefix.now ∷ init_head_end ∷ [])
+abbrev pub init_head : Names → ℕ → List ℕ
+init_head names many = joined (codes "void " ∷ names.prefix.now ∷ codes "_init("
+    ∷ names.prefix.now ∷ init_head_end ∷ none_store many ∷ [])
 
 abbrev pub init_tail : List ℕ
 init_tail = codes "}" ++ 10 ∷ []
 
-abbrev pub init_text : Names → Program → List ℕ
-init_text names p = init_head names ++ (flat_map (store_line names) p.start ++ init_tail)
+abbrev pub init_text : Names → ℕ → Program → List ℕ
+init_text names many p = init_head names many ++ (flat_map (store_line names) p.start ++ init_tail)
 
 -- ---- the struct
 abbrev pub member_line : Names → CType → ℕ → List ℕ

@@ -17,7 +17,7 @@ functions_text p = flat_map function_text p.functions
 -- the text of a program whose struct has so many members
 abbrev pub unit_text : Names → ℕ → Program → List ℕ
 unit_text names many p = struct_text names p.word many ++ (functions_text p
-    ++ (init_text names p ++ ((10 ∷ []) ++ step_text names p)))
+    ++ (init_text names many p ++ ((10 ∷ []) ++ step_text names many p)))
 
 -- ---- as the writers see it
 abbrev pub helper_named : Bool → CType → Helper

@@ -7,8 +7,8 @@ ghost use Rattle.dsv_ctext.specs.Plans.{IsPlan, load_line, node_line, store_of, 
 ghost use Rattle.dsv_ctext.specs.Plans.{fitted_of};
 ghost use Rattle.dsv_ctext.specs.ProgramTexts.{lines_from, declaration_start, declaration_head};
 ghost use Rattle.dsv_ctext.specs.ProgramTexts.{store_head};
-ghost use Rattle.dsv_ctext.specs.ProgramTexts.{step_head, step_tail, step_text, init_head};
-ghost use Rattle.dsv_ctext.specs.ProgramTexts.{init_text};
+ghost use Rattle.dsv_ctext.specs.ProgramTexts.{none_store, step_head, step_tail, step_text};
+ghost use Rattle.dsv_ctext.specs.ProgramTexts.{init_head, init_text};
 ghost use Rattle.dsv_c.specs.Programs.{word_type, program_of, codes_of, code_at};
 ghost use Rattle.dsv_ctext.specs.Texts.{name_limit};
 
@@ -183,9 +183,20 @@ pub(crate) fn put_stores<K: Sink>(sink: &mut K, plan: &Plan) -> Result<(), Faile
     Ok(())
 }
 
+/// The line that uses a struct without registers.
+fn none_store(many: u32) -> &'static [u8]
+    ensures { result.now ≡ none_store many }
+{
+    if many == 0 {
+        b"    s->none = 0;\n"
+    } else {
+        b""
+    }
+}
+
 /// Writes the beginning of the step function.
-fn put_step_head<K: Sink>(sink: &mut K, names: &Names, word: CType) -> Result<(), Failed>
-    ensures { Writes (K.seen sink.old) (K.seen sink.new) result (step_head names.now word) }
+fn put_step_head<K: Sink>(sink: &mut K, names: &Names, word: CType, many: u32) -> Result<(), Failed>
+    ensures { Writes (K.seen sink.old) (K.seen sink.new) result (step_head names.now word many) }
 {
     let word_name = Fragment::Bytes(type_name(word));
     let name = Fragment::Bytes(names.prefix);
@@ -200,6 +211,7 @@ fn put_step_head<K: Sink>(sink: &mut K, names: &Names, word: CType) -> Result<()
             Fragment::Bytes(b"_state *s, "),
             word_name,
             Fragment::Bytes(b" x)\n{\n"),
+            Fragment::Bytes(none_store(many)),
         ],
     )
 }
@@ -222,11 +234,11 @@ pub(crate) fn put_step<K: Sink>(sink: &mut K, plan: &Plan) -> Result<(), Failed>
     requires plan { IsPlan plan.now.net.now plan.now.types.now plan.now.locals.now }
     requires named { length plan.now.names.members.now ≡ length plan.now.net.now.next }
     ensures { Writes (K.seen sink.old) (K.seen sink.new) result
-        (step_text plan.now.names (program_of plan.now.net.now)) }
+        (step_text plan.now.names (length plan.now.net.now.next) (program_of plan.now.net.now)) }
 {
     let word = word_type(&plan.net.format());
     let many = plan.net.registers();
-    put_step_head(sink, &plan.names, word)?;
+    put_step_head(sink, &plan.names, word, many)?;
     put_loads(sink, &plan.names, word, many)?;
     put_node_lines(sink, plan, word)?;
     put_stores(sink, plan)?;
@@ -234,8 +246,8 @@ pub(crate) fn put_step<K: Sink>(sink: &mut K, plan: &Plan) -> Result<(), Failed>
 }
 
 /// Writes the beginning of the init function.
-fn put_init_head<K: Sink>(sink: &mut K, names: &Names) -> Result<(), Failed>
-    ensures { Writes (K.seen sink.old) (K.seen sink.new) result (init_head names.now) }
+fn put_init_head<K: Sink>(sink: &mut K, names: &Names, many: u32) -> Result<(), Failed>
+    ensures { Writes (K.seen sink.old) (K.seen sink.new) result (init_head names.now many) }
 {
     let name = Fragment::Bytes(names.prefix);
     put_fragments(
@@ -246,6 +258,7 @@ fn put_init_head<K: Sink>(sink: &mut K, names: &Names) -> Result<(), Failed>
             Fragment::Bytes(b"_init("),
             name,
             Fragment::Bytes(b"_state *s)\n{\n"),
+            Fragment::Bytes(none_store(many)),
         ],
     )
 }
@@ -254,11 +267,11 @@ fn put_init_head<K: Sink>(sink: &mut K, names: &Names) -> Result<(), Failed>
 pub(crate) fn put_init<K: Sink>(sink: &mut K, net: &Netlist, names: &Names) -> Result<(), Failed>
     requires named { length names.now.members.now ≡ length net.now.next }
     ensures { Writes (K.seen sink.old) (K.seen sink.new) result
-        (init_text names.now (program_of net.now)) }
+        (init_text names.now (length net.now.next) (program_of net.now)) }
 {
     let _count = net.len(); // that it is a netlist, for the proof
     let many = net.registers();
-    put_init_head(sink, names)?;
+    put_init_head(sink, names, many)?;
     put_zeros(sink, names, many)?;
     put_all(sink, b"}\n")
 }
