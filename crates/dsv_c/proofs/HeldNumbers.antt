@@ -43,15 +43,6 @@ left_wider Int32 Int32 = omega arith
 left_wider Int32 Int64 = omega arith
 left_wider Int64 b = omega arith
 
-pub right_wider : (a b : CType) → limit b ≤ limit (wider_type a b)
-right_wider Int b = omega arith
-right_wider Int32 Int = omega arith
-right_wider Int32 Int32 = omega arith
-right_wider Int32 Int64 = omega arith
-right_wider Int64 Int = omega arith
-right_wider Int64 Int32 = omega arith
-right_wider Int64 Int64 = omega arith
-
 pub wider_bits : (t : CType) → bits t ≤ bits (wider_type t t)
 wider_bits Int = omega arith
 wider_bits Int32 = omega arith

@@ -58,9 +58,6 @@ record Grouped (e : Expr) (body : List Token → List Token) : Type 0 where
   outer : (rest : List Token) → tokens false e ++ rest ≡ body rest
   reads : (n : ℕ) (rest : List Token) → depth e ≤ suc n → whole_of (operand_of n) (body rest) ≡ got e rest
 
-close_is : (make : Expr → Expr) (e : Expr) (rest : List Token) → close_of make (result e (Close ∷ rest)) ≡ got (make e) rest
-close_is make e rest = refl
-
 group_reads : (e : Expr) (body : List Token → List Token) → Grouped e body → Reads e
 group_reads e body h zero rest l = absurd (omega (arith, h.some))
 group_reads e body h (suc n) rest l =

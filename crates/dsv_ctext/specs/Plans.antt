@@ -160,9 +160,6 @@ head_of names net types locals inner i (Fit of) = local_name names (slice_index 
 head_of names net types locals inner i (Scale of) =
     product_head inner (one_of net) (need_of net i) (type_at types of)
 
-abbrev pub head_at : Names → Net → List CType → List ℕ → Bool → ℕ → List ℕ
-head_at names net types locals inner i = head_of names net types locals inner i (node_at net i)
-
 -- the types and the locals' numbers of a netlist's expressions
 pub record IsPlan (net : Net) (types : List CType) (locals : List ℕ) : Type 0 where
   pub netlist : IsNetlist net

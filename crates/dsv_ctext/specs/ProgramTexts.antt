@@ -1,7 +1,7 @@
 -- The text of a program.
 use Rattle.std.specs.Prelude.{ℕ, zero, suc, ◌+◌, ◌==◌, false, if◌then◌else◌}
 use Rattle.std.specs.Prelude.{List, [], ◌∷◌, ◌++◌, codes}
-use Rattle.std.specs.List.{flat_map}
+use Rattle.std.specs.List.{flat_map, concat}
 use Rattle.dsv_c.specs.declared.c_type.CType.{CType}
 use Rattle.dsv_ctext.specs.declared.names.Names.{Names}
 use Rattle.dsv_c.specs.Syntax.{Expr, Declaration, Store, Program}
@@ -11,10 +11,6 @@ use Rattle.dsv_ctext.specs.Texts.{member_name, local_name, type_name, code_text}
 abbrev pub lines_from : (ℕ → List ℕ) → ℕ → ℕ → List ℕ
 lines_from line k zero = []
 lines_from line k (suc n) = line k ++ lines_from line (k + 1) n
-
-abbrev pub joined : List (List ℕ) → List ℕ
-joined [] = []
-joined (t ∷ ts) = t ++ joined ts
 
 -- ---- statements
 abbrev pub line_end : List ℕ
@@ -52,7 +48,7 @@ step_head_end = codes " x)" ++ 10 ∷ (codes "{" ++ 10 ∷ [])
 
 -- word NAME_step(NAME_state *s, word x)
 abbrev pub step_head : Names → CType → ℕ → List ℕ
-step_head names word many = joined (type_name word ∷ codes " " ∷ names.prefix.now ∷ codes "_step("
+step_head names word many = concat (type_name word ∷ codes " " ∷ names.prefix.now ∷ codes "_step("
     ∷ names.prefix.now ∷ codes "_state *s, " ∷ type_name word ∷ step_head_end ∷ none_store many
     ∷ [])
 
@@ -72,7 +68,7 @@ abbrev pub init_head_end : List ℕ
 init_head_end = codes "_state *s)" ++ 10 ∷ (codes "{" ++ 10 ∷ [])
 
 abbrev pub init_head : Names → ℕ → List ℕ
-init_head names many = joined (codes "void " ∷ names.prefix.now ∷ codes "_init("
+init_head names many = concat (codes "void " ∷ names.prefix.now ∷ codes "_init("
     ∷ names.prefix.now ∷ init_head_end ∷ none_store many ∷ [])
 
 abbrev pub init_tail : List ℕ

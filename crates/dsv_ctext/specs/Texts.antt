@@ -1,6 +1,7 @@
 -- The text of expressions.
-use Rattle.std.specs.Prelude.{ℕ, zero, suc, ◌-◌, ◌^◌, ◌==◌, Bool, true, false, if◌then◌else◌}
+use Rattle.std.specs.Prelude.{ℕ, zero, suc, ◌-◌, ◌^◌, Bool, true, false, if◌then◌else◌}
 use Rattle.std.specs.Prelude.{nat_lt, List, [], ◌∷◌, ◌++◌, length, slice_index_or, codes, ℤ, pos}
+use Rattle.std.specs.Prelude.{Option, Some, None}
 use Rattle.std.specs.Fmt.{signed_decimal, decimal}
 use Rattle.dsv_c.specs.declared.c_type.CType.{CType}
 use Rattle.dsv_c.specs.declared.c_type.CType.TheVariants.{Int, Int32, Int64}
@@ -21,9 +22,9 @@ abbrev pub name_limit : ℕ
 name_limit = 2000
 
 -- "s2_" in section 2 of a cascade
-abbrev pub section_text : ℕ → List ℕ
-section_text section =
-    if section == 0 then [] else codes "s" ++ signed_decimal (pos section) ++ codes "_"
+abbrev pub section_text : Option ℕ → List ℕ
+section_text None = []
+section_text (Some section) = codes "s" ++ signed_decimal (pos section) ++ codes "_"
 
 -- x_1, or s2_x_1
 abbrev pub member_text : MemberName → List ℕ
@@ -31,7 +32,7 @@ member_text m =
     section_text m.section ++ (m.letter ∷ codes "_" ++ signed_decimal (pos m.number))
 
 abbrev pub no_member : MemberName
-no_member = record { section = 0; letter = 0; number = 0 }
+no_member = record { section = None; letter = 0; number = 0 }
 
 abbrev pub member_name : Names → ℕ → List ℕ
 member_name names k = member_text (slice_index_or names.members.now k no_member)

@@ -14,11 +14,11 @@ use dsv_base::{Failed, Sink, put_all};
 use dsv_c::CType;
 
 /// The name of a member of the struct: a letter and a number, in a cascade after its section's
-/// number, which is from 1 on, as `x_1` and `s2_x_1`.
+/// number, as `x_1` and `s2_x_1`.
 #[derive(Clone, Copy, Debug, PartialEq, Eq)]
 pub struct MemberName {
-    /// the section's number in a cascade; 0 of what isn't one
-    pub section: u32,
+    /// the section's number in a cascade
+    pub section: Option<u32>,
     pub letter: u8,
     pub number: u32,
 }
@@ -32,20 +32,20 @@ pub struct Names<'a> {
 }
 
 /// Writes the beginning of a member's name in a cascade.
-fn put_section<K: Sink>(sink: &mut K, section: u32) -> Result<(), Failed>
+fn put_section<K: Sink>(sink: &mut K, section: Option<u32>) -> Result<(), Failed>
     ensures { Writes (K.seen sink.old) (K.seen sink.new) result (section_text section) }
 {
-    if section == 0 {
-        return Ok(());
+    match section {
+        Some(number) => put_fragments(
+            sink,
+            &[
+                Fragment::Bytes(b"s"),
+                Fragment::Number(number.into()),
+                Fragment::Bytes(b"_"),
+            ],
+        ),
+        None => Ok(()),
     }
-    put_fragments(
-        sink,
-        &[
-            Fragment::Bytes(b"s"),
-            Fragment::Number(section.into()),
-            Fragment::Bytes(b"_"),
-        ],
-    )
 }
 
 /// Writes the letter and the number of a member.
