@@ -227,9 +227,9 @@ OTHERS = [
          "`--words`: the SHA-256 digest of each file that was read, with the name that the command line has for it; the format, the "
          "rounding and the overflow mode; the range of the inputs, after which `cut` says that the format has no words for all of the "
          "file's; and the words of the coefficients, as they stand in the written equations. In delta forms these are `delta` and the "
-         "lists in the delta operator. In a cascade the words of each section follow its number, from 0 on; the range is FILE's. Of a "
-         "state-space controller there are the rows of A, and b, c and d. In a report the same lines stand after its heading, with "
-         "TIMING the costs that it took too: so a field of the block `hardware` that was passed over for its spelling is seen. Of "
+         "lists in the delta operator. In a cascade the words of each section follow its number, from 0 on; the range is FILE's. A "
+         "state-space controller has the rows of A, and b, c and d. In a report the same lines stand after its heading, with "
+         "TIMING the costs that it took too: so a field of the block `hardware` that was passed over for its spelling is seen. With "
          "`--check` the words are those of the certificate's design.",
          "compare the words with those in the code on the board, and the digests with those of the files that are kept.",
          "small/delta_two.dsv --words --realization DDFII"),
