@@ -7,5 +7,8 @@ pub mod LineTexts
 pub mod FitLines
 pub mod Powers
 pub mod FunctionTexts
+pub mod ProductTexts
+pub mod RowTexts
+pub mod SameLabels
 pub mod UnitLemmas
 pub mod Spellings

@@ -15,7 +15,7 @@ use Rattle.dsv_netlist.specs.declared.node.Node.{Node}
 use Rattle.dsv_netlist.specs.declared.node.Node.TheVariants.{Input}
 use Rattle.std.proofs.lemmas.List.{length_push}
 use Rattle.dsv_c.specs.declared.c_type.CType.{CType}
-use Rattle.dsv_ctext.specs.declared.names.Names.{Names}
+use Rattle.dsv_ctext.specs.declared.names.Labels.{Labels}
 use Rattle.dsv_c.specs.Syntax.{Constant, Declaration}
 use Rattle.dsv_c.specs.Programs.{TypedExpr, code_at, codes_of, node_code, node_locals, codes_from, locals_from, loads_from, stores_from, word_type, program_of}
 use Rattle.dsv_ctext.specs.Plans.{locals_before}
@@ -69,7 +69,7 @@ lines_shift f k m zero e = refl
 lines_shift f k m (suc n) e = rw e (ap (λ (t : List ℕ). f (suc k) ++ t) (lines_shift f (k + 1) (suc k + 1) n (omega arith)))
 
 -- ---- declarations
-declarations-append : (names : Names) (k : ℕ) (xs ys : List Declaration) → declarations_text names k (xs ++ ys) ≡ declarations_text names k xs ++ declarations_text names (k + length xs) ys
+declarations-append : (names : Labels) (k : ℕ) (xs ys : List Declaration) → declarations_text names k (xs ++ ys) ≡ declarations_text names k xs ++ declarations_text names (k + length xs) ys
 declarations-append names k [] ys = let z : k + 0 ≡ k = omega arith in ap (λ (m : ℕ). declarations_text names m ys) (sym z)
 declarations-append names k (x ∷ xs) ys =
     let s : k + 1 + length xs ≡ k + length (x ∷ xs) = omega arith in
@@ -80,15 +80,15 @@ loads-length : (t : CType) (k n : ℕ) → length (loads_from t k n) ≡ n
 loads-length t k zero = refl
 loads-length t k (suc n) = omega (arith, loads-length t (k + 1) n)
 
-pub loads_text : (names : Names) (t : CType) (k n : ℕ) → declarations_text names (k + 1) (loads_from t k n) ≡ lines_from (load_line names t) k n
+pub loads_text : (names : Labels) (t : CType) (k n : ℕ) → declarations_text names (k + 1) (loads_from t k n) ≡ lines_from (load_line names t) k n
 loads_text names t k zero = refl
 loads_text names t k (suc n) = ap (λ (x : List ℕ). load_line names t k ++ x) (loads_text names t (k + 1) n)
 
 -- the locals of nodes, over the bounds and the expressions of all nodes
-abbrev pub line_among : Names → Format → List Node → List ℕ → List TypedExpr → ℕ → List ℕ → List TypedExpr → ℕ → List ℕ
+abbrev pub line_among : Labels → Format → List Node → List ℕ → List TypedExpr → ℕ → List ℕ → List TypedExpr → ℕ → List ℕ
 line_among names f ns bs cs l bounds codes i = declarations_text names (locals_before f ns bs cs l i) (node_locals f bounds codes (get_or ns i Input))
 
-locals_text_from : (names : Names) (f : Format) (ns : List Node) (bs : List ℕ) (cs : List TypedExpr) (l : ℕ) → length bs ≡ length cs → AllNameBack (length cs) ns
+locals_text_from : (names : Labels) (f : Format) (ns : List Node) (bs : List ℕ) (cs : List TypedExpr) (l : ℕ) → length bs ≡ length cs → AllNameBack (length cs) ns
     → declarations_text names l (locals_from f ns bs cs l) ≡ lines_from (line_among names f ns bs cs l (bounds_from f ns bs) (codes_from f ns bs cs l)) 0 (length ns)
 locals_text_from names f [] bs cs l e a = refl
 locals_text_from names f (n ∷ ns) bs cs l e a =
@@ -104,7 +104,7 @@ locals_text_from names f (n ∷ ns) bs cs l e a =
     declarations-append names l ds rest ∙ (ap (λ (t : List ℕ). t ++ declarations_text names (l + length ds) rest) first
     ∙ ap (λ (t : List ℕ). line 0 ++ t) (more ∙ sym (lines_shift line 0 1 (length ns) refl)))
 
-pub locals_text : (names : Names) (net : Net) → IsNetlist net → declarations_text names 1 (program_of net).locals
+pub locals_text : (names : Labels) (net : Net) → IsNetlist net → declarations_text names 1 (program_of net).locals
     ≡ lines_from (load_line names (word_type net.format)) 0 (length net.next) ++ lines_from (node_line names net) 0 (length net.nodes)
 locals_text names net w =
     let t = word_type net.format in
@@ -118,7 +118,7 @@ locals_text names net w =
     ∙ ap (λ (x : List ℕ). lines_from (load_line names t) 0 (length net.next) ++ x) (locals_text_from names net.format net.nodes [] [] l refl w.backwards)))
 
 -- ---- stores
-stores_text_from : (names : Names) (codes : List TypedExpr) (ks all : List ℕ) (j : ℕ) → ((i : ℕ) → i < length ks → get_or ks i 0 ≡ get_or all (j + i) 0)
+stores_text_from : (names : Labels) (codes : List TypedExpr) (ks all : List ℕ) (j : ℕ) → ((i : ℕ) → i < length ks → get_or ks i 0 ≡ get_or all (j + i) 0)
     → flat_map (store_line names) (stores_from j (map (λ k. (code_at codes k).expr) ks)) ≡ lines_from (λ k. store_line names (record { member = k; value = (code_at codes (slice_index all k)).expr })) j (length ks)
 stores_text_from names codes [] all j h = refl
 stores_text_from names codes (k ∷ ks) all j h =
@@ -128,12 +128,12 @@ stores_text_from names codes (k ∷ ks) all j h =
     ap (λ (m : ℕ). store_line names (record { member = j; value = (code_at codes m).expr }) ++ flat_map (store_line names) (stores_from (j + 1) (map (λ k. (code_at codes k).expr) ks))) here
     ∙ ap (λ (t : List ℕ). store_line names (record { member = j; value = (code_at codes (slice_index all j)).expr }) ++ t) more
 
-pub stores_text : (names : Names) (net : Net) → flat_map (store_line names) (program_of net).stores ≡ lines_from (store_of names net) 0 (length net.next)
+pub stores_text : (names : Labels) (net : Net) → flat_map (store_line names) (program_of net).stores ≡ lines_from (store_of names net) 0 (length net.next)
 stores_text names net = stores_text_from names (codes_of net) net.next net.next 0 (λ i l. let z : 0 + i ≡ i = omega arith in ap (λ (m : ℕ). get_or net.next m 0) (sym z))
 
-init_text_from : (names : Names) (ks : List ℕ) (j : ℕ) → flat_map (store_line names) (stores_from j (map (λ k. Constant (pos 0)) ks)) ≡ lines_from (init_line names) j (length ks)
+init_text_from : (names : Labels) (ks : List ℕ) (j : ℕ) → flat_map (store_line names) (stores_from j (map (λ k. Constant (pos 0)) ks)) ≡ lines_from (init_line names) j (length ks)
 init_text_from names [] j = refl
 init_text_from names (k ∷ ks) j = ap (λ (t : List ℕ). init_line names j ++ t) (init_text_from names ks (j + 1))
 
-pub start_text : (names : Names) (net : Net) → flat_map (store_line names) (program_of net).start ≡ lines_from (init_line names) 0 (length net.next)
+pub start_text : (names : Labels) (net : Net) → flat_map (store_line names) (program_of net).start ≡ lines_from (init_line names) 0 (length net.next)
 start_text names net = init_text_from names net.next 0

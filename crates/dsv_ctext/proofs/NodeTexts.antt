@@ -10,7 +10,7 @@ use Rattle.dsv_netlist.specs.declared.node.Node.{Node}
 use Rattle.dsv_netlist.specs.declared.node.Node.TheVariants.{Input, Reg, MulConst, Round, Add, Sub, Fit, Scale}
 use Rattle.dsv_c.specs.declared.c_type.CType.{CType}
 use Rattle.dsv_c.specs.declared.c_type.CType.TheVariants.{Int, Int32, Int64}
-use Rattle.dsv_ctext.specs.declared.names.Names.{Names}
+use Rattle.dsv_ctext.specs.declared.names.Labels.{Labels}
 use Rattle.dsv_ctext.specs.declared.nodes.Arity.{Arity}
 use Rattle.dsv_ctext.specs.declared.nodes.Arity.TheVariants as arity
 use Rattle.dsv_c.specs.Syntax.{Expr, Plus, Minus}
@@ -21,12 +21,12 @@ use Rattle.dsv_ctext.specs.Plans.{IsPlan, need_of, one_of, sum_head, type_at, ar
 use Rattle.dsv_c.specs.Codable.{node_at}
 use Rattle.dsv_ctext.proofs.Whole.{code_is, names_back, bound_is}
 
-wide_text : (names : Names) (t : CType) (e : Expr) → code_text names true (as_wide t e).expr ≡ cast_text Int64 t ++ code_text names true e
+wide_text : (names : Labels) (t : CType) (e : Expr) → code_text names true (as_wide t e).expr ≡ cast_text Int64 t ++ code_text names true e
 wide_text names Int e = refl
 wide_text names Int32 e = refl
 wide_text names Int64 e = refl
 
-pub widened_text : (names : Names) (t : CType) (c : TypedExpr) → code_text names true (as_needed t c).expr ≡ cast_text t c.type ++ code_text names true c.expr
+pub widened_text : (names : Labels) (t : CType) (c : TypedExpr) → code_text names true (as_needed t c).expr ≡ cast_text t c.type ++ code_text names true c.expr
 widened_text names Int c = refl
 widened_text names Int32 c = refl
 widened_text names Int64 c = wide_text names c.type c.expr
@@ -37,19 +37,19 @@ five a b c d e f = simp append_assoc refl
 four : (a d e s g f : List ℕ) → a ++ (d ++ e) ++ s ++ g ++ f ≡ (a ++ d) ++ (e ++ (s ++ (g ++ f)))
 four a d e s g f = simp append_assoc refl
 
-pub product_text : (names : Names) (inner : Bool) (k : ℤ) (t : CType) (c : TypedExpr)
+pub product_text : (names : Labels) (inner : Bool) (k : ℤ) (t : CType) (c : TypedExpr)
     → code_text names inner (product_code k (as_needed t c)).expr ≡ product_head inner k t c.type ++ (code_text names true c.expr ++ right_parenthesis inner)
 product_text names inner k t c =
     ap (λ (w : List ℕ). left_parenthesis inner ++ signed_decimal k ++ codes " * " ++ w ++ right_parenthesis inner) (widened_text names t c)
     ∙ five (left_parenthesis inner) (signed_decimal k) (codes " * ") (cast_text t c.type) (code_text names true c.expr) (right_parenthesis inner)
 
-pub plus_text : (names : Names) (inner : Bool) (t : CType) (c d : TypedExpr)
+pub plus_text : (names : Labels) (inner : Bool) (t : CType) (c d : TypedExpr)
     → code_text names inner (sum_code Plus (as_needed t c) d).expr ≡ sum_head inner t c.type ++ (code_text names true c.expr ++ (codes " + " ++ (code_text names true d.expr ++ right_parenthesis inner)))
 plus_text names inner t c d =
     ap (λ (w : List ℕ). left_parenthesis inner ++ w ++ codes " + " ++ code_text names true d.expr ++ right_parenthesis inner) (widened_text names t c)
     ∙ four (left_parenthesis inner) (cast_text t c.type) (code_text names true c.expr) (codes " + ") (code_text names true d.expr) (right_parenthesis inner)
 
-pub minus_text : (names : Names) (inner : Bool) (t : CType) (c d : TypedExpr)
+pub minus_text : (names : Labels) (inner : Bool) (t : CType) (c d : TypedExpr)
     → code_text names inner (sum_code Minus (as_needed t c) d).expr ≡ sum_head inner t c.type ++ (code_text names true c.expr ++ (codes " - " ++ (code_text names true d.expr ++ right_parenthesis inner)))
 minus_text names inner t c d =
     ap (λ (w : List ℕ). left_parenthesis inner ++ w ++ codes " - " ++ code_text names true d.expr ++ right_parenthesis inner) (widened_text names t c)
@@ -62,7 +62,7 @@ by_arity arity.One head left sign right tail = head ++ (left ++ tail)
 by_arity arity.Two head left sign right tail = head ++ (left ++ (sign ++ (right ++ tail)))
 
 -- the text of the expression of this node, at place i
-abbrev pub node_text : Names → Net → List CType → List ℕ → Bool → ℕ → Node → List ℕ
+abbrev pub node_text : Labels → Net → List CType → List ℕ → Bool → ℕ → Node → List ℕ
 node_text names net types locals inner i n = by_arity (arity_of n) (head_of names net types locals inner i n)
     (code_text names (is_operand n) (code_at (codes_of net) (left_of n)).expr) (sign_of n) (code_text names true (code_at (codes_of net) (right_of n)).expr) (tail_of n inner)
 
@@ -86,7 +86,7 @@ typed_there net types locals i k p h l = sym (p.each_type k (omega arith))
 needed : (net : Net) (types : List CType) (locals : List ℕ) (i : ℕ) (n : Node) → Placing net types locals i n → type_for net.format (node_bound net.format (bounds_of net.format net.nodes) n) ≡ need_of net i
 needed net types locals i n p = ap (type_for net.format) (sym p.bound)
 
-text_by : (names : Names) (net : Net) (types : List CType) (locals : List ℕ) (inner : Bool) (i : ℕ) (n : Node) → Placing net types locals i n
+text_by : (names : Labels) (net : Net) (types : List CType) (locals : List ℕ) (inner : Bool) (i : ℕ) (n : Node) → Placing net types locals i n
     → code_text names inner (node_code net.format (bounds_of net.format net.nodes) (codes_of net) (locals_before net.format net.nodes [] [] (length net.next + 1) i) n).expr ≡ node_text names net types locals inner i n
 text_by names net types locals inner i Input p = refl
 text_by names net types locals inner i (Reg k) p = refl
@@ -119,7 +119,7 @@ text_by names net types locals inner i (Sub k m) p =
     minus_text names inner t c d
     ∙ ap (λ (h : List ℕ). h ++ (code_text names true c.expr ++ (codes " - " ++ (code_text names true d.expr ++ right_parenthesis inner)))) (sum_heads inner t (need_of net i) c.type (type_at types k) (needed net types locals i (Sub k m) p) (typed_there net types locals i k p.plan p.there p.back.0))
 
-pub text_is : (names : Names) (net : Net) (types : List CType) (locals : List ℕ) (inner : Bool) (i : ℕ) (n : Node) → IsPlan net types locals → i < length net.nodes → n ≡ node_at net i
+pub text_is : (names : Labels) (net : Net) (types : List CType) (locals : List ℕ) (inner : Bool) (i : ℕ) (n : Node) → IsPlan net types locals → i < length net.nodes → n ≡ node_at net i
     → code_text names inner (code_at (codes_of net) i).expr ≡ node_text names net types locals inner i n
 text_is names net types locals inner i n p h e =
     let place : Placing net types locals i (node_at net i) = record {
@@ -133,15 +133,15 @@ text_is names net types locals inner i n p h e =
     subst (λ (m : Node). code_text names inner (code_at (codes_of net) i).expr ≡ node_text names net types locals inner i m) (sym e) here
 
 -- by how many operands the node has
-pub leaf_text : (names : Names) (net : Net) (types : List CType) (locals : List ℕ) (inner : Bool) (i : ℕ) (n : Node) → IsPlan net types locals → i < length net.nodes → n ≡ node_at net i → arity_of n ≡ arity.None
+pub leaf_text : (names : Labels) (net : Net) (types : List CType) (locals : List ℕ) (inner : Bool) (i : ℕ) (n : Node) → IsPlan net types locals → i < length net.nodes → n ≡ node_at net i → arity_of n ≡ arity.None
     → code_text names inner (code_at (codes_of net) i).expr ≡ head_of names net types locals inner i n
 leaf_text names net types locals inner i n p h e a = rw a at (text_is names net types locals inner i n p h e)
 
-pub one_text : (names : Names) (net : Net) (types : List CType) (locals : List ℕ) (inner : Bool) (i : ℕ) (n : Node) → IsPlan net types locals → i < length net.nodes → n ≡ node_at net i → arity_of n ≡ arity.One
+pub one_text : (names : Labels) (net : Net) (types : List CType) (locals : List ℕ) (inner : Bool) (i : ℕ) (n : Node) → IsPlan net types locals → i < length net.nodes → n ≡ node_at net i → arity_of n ≡ arity.One
     → code_text names inner (code_at (codes_of net) i).expr ≡ head_of names net types locals inner i n ++ (code_text names (is_operand n) (code_at (codes_of net) (left_of n)).expr ++ tail_of n inner)
 one_text names net types locals inner i n p h e a = rw a at (text_is names net types locals inner i n p h e)
 
-pub two_text : (names : Names) (net : Net) (types : List CType) (locals : List ℕ) (inner : Bool) (i : ℕ) (n : Node) → IsPlan net types locals → i < length net.nodes → n ≡ node_at net i → arity_of n ≡ arity.Two
+pub two_text : (names : Labels) (net : Net) (types : List CType) (locals : List ℕ) (inner : Bool) (i : ℕ) (n : Node) → IsPlan net types locals → i < length net.nodes → n ≡ node_at net i → arity_of n ≡ arity.Two
     → code_text names inner (code_at (codes_of net) i).expr ≡ head_of names net types locals inner i n ++ (code_text names true (code_at (codes_of net) (left_of n)).expr ++ (sign_of n ++ (code_text names true (code_at (codes_of net) (right_of n)).expr ++ tail_of n inner)))
 two_text names net types locals inner i n p h e a = rw (a, two_operand n a) at (text_is names net types locals inner i n p h e)
   where
@@ -188,12 +188,12 @@ back_more i m (Fit k) l b = omega arith
 back_more i m (Scale k) l b = omega arith
 
 -- ---- as a writer of them sees it
-pub one_written : (names : Names) (net : Net) (types : List CType) (locals : List ℕ) (inner : Bool) (i : ℕ) (n : Node) (a : Arity) (operand : Bool) (left : ℕ) (tail : List ℕ) → IsPlan net types locals → i < length net.nodes
+pub one_written : (names : Labels) (net : Net) (types : List CType) (locals : List ℕ) (inner : Bool) (i : ℕ) (n : Node) (a : Arity) (operand : Bool) (left : ℕ) (tail : List ℕ) → IsPlan net types locals → i < length net.nodes
     → n ≡ node_at net i → a ≡ arity_of n → a ≡ arity.One → operand ≡ is_operand n → left ≡ left_of n → tail ≡ tail_of n inner
     → code_text names inner (code_at (codes_of net) i).expr ≡ head_of names net types locals inner i n ++ (code_text names operand (code_at (codes_of net) left).expr ++ tail)
 one_written names net types locals inner i n a operand left tail p h e x y o l t = rw (o, l, t) (one_text names net types locals inner i n p h e (sym x ∙ y))
 
-pub two_written : (names : Names) (net : Net) (types : List CType) (locals : List ℕ) (inner : Bool) (i : ℕ) (n : Node) (a : Arity) (left right : ℕ) (sign tail : List ℕ) → IsPlan net types locals → i < length net.nodes
+pub two_written : (names : Labels) (net : Net) (types : List CType) (locals : List ℕ) (inner : Bool) (i : ℕ) (n : Node) (a : Arity) (left right : ℕ) (sign tail : List ℕ) → IsPlan net types locals → i < length net.nodes
     → n ≡ node_at net i → a ≡ arity_of n → a ≡ arity.Two → left ≡ left_of n → right ≡ right_of n → sign ≡ sign_of n → tail ≡ tail_of n inner
     → code_text names inner (code_at (codes_of net) i).expr ≡ head_of names net types locals inner i n ++ (code_text names true (code_at (codes_of net) left).expr ++ (sign ++ (code_text names true (code_at (codes_of net) right).expr ++ tail)))
 two_written names net types locals inner i n a left right sign tail p h e x y l r s t = rw (l, r, s, t) (two_text names net types locals inner i n p h e (sym x ∙ y))

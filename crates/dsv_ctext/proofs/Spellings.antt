@@ -5,21 +5,21 @@ use Rattle.std.specs.List.{flat_map}
 use Rattle.std.specs.Fmt.{signed_decimal}
 use Rattle.std.proofs.lemmas.List.{append-nil}
 use Rattle.std.proofs.Math.IntN.{ℤ, pos}
-use Rattle.dsv_ctext.specs.declared.names.Names.{Names}
+use Rattle.dsv_ctext.specs.declared.names.Labels.{Labels}
 use Rattle.dsv_c.specs.Syntax.{Expr, Constant, Local, Member, Cast, Times, Plus, Minus, Over, Mask, Flip, Choice, Call}
 use Rattle.dsv_ctext.specs.Texts.{code_text, left_parenthesis, right_parenthesis, call_head}
 use Rattle.dsv_ctext.specs.Tokens.{Token, Number, Name, Arrow, ToType, Close, Star, Cross, Dash, Slash, And, Hat, Below, Then, Else, spelling, open_tokens, close_tokens, tokens}
 
-spelled-append : (names : Names) (xs ys : List Token) → flat_map (spelling names) (xs ++ ys) ≡ flat_map (spelling names) xs ++ flat_map (spelling names) ys
+spelled-append : (names : Labels) (xs ys : List Token) → flat_map (spelling names) (xs ++ ys) ≡ flat_map (spelling names) xs ++ flat_map (spelling names) ys
 spelled-append names [] ys = refl
 spelled-append names (x ∷ xs) ys =
     ap (λ (t : List ℕ). spelling names x ++ t) (spelled-append names xs ys) ∙ sym (append_assoc (spelling names x) (flat_map (spelling names) xs) (flat_map (spelling names) ys))
 
-open_text : (names : Names) (inner : Bool) → flat_map (spelling names) (open_tokens inner) ≡ left_parenthesis inner
+open_text : (names : Labels) (inner : Bool) → flat_map (spelling names) (open_tokens inner) ≡ left_parenthesis inner
 open_text names true = refl
 open_text names false = refl
 
-close_text : (names : Names) (inner : Bool) → flat_map (spelling names) (close_tokens inner) ≡ right_parenthesis inner
+close_text : (names : Labels) (inner : Bool) → flat_map (spelling names) (close_tokens inner) ≡ right_parenthesis inner
 close_text names true = refl
 close_text names false = refl
 
@@ -27,7 +27,7 @@ close_text names false = refl
 binary_apart : (o a s b c : List ℕ) → o ++ (a ++ (s ++ (b ++ c))) ≡ o ++ a ++ s ++ b ++ c
 binary_apart o a s b c = simp append_assoc refl
 
-binary_text : (names : Names) (inner : Bool) (a b : Expr) (t : Token) → flat_map (spelling names) (tokens true a) ≡ code_text names true a → flat_map (spelling names) (tokens true b) ≡ code_text names true b
+binary_text : (names : Labels) (inner : Bool) (a b : Expr) (t : Token) → flat_map (spelling names) (tokens true a) ≡ code_text names true a → flat_map (spelling names) (tokens true b) ≡ code_text names true b
     → flat_map (spelling names) (open_tokens inner ++ (tokens true a ++ (t ∷ (tokens true b ++ close_tokens inner)))) ≡ left_parenthesis inner ++ code_text names true a ++ spelling names t ++ code_text names true b ++ right_parenthesis inner
 binary_text names inner a b t p q =
     let f = flat_map (spelling names) in
@@ -40,7 +40,7 @@ binary_text names inner a b t p q =
     ∙ (ap (λ (x : List ℕ). left_parenthesis inner ++ (code_text names true a ++ (spelling names t ++ (code_text names true b ++ x)))) (close_text names inner)
     ∙ binary_apart (left_parenthesis inner) (code_text names true a) (spelling names t) (code_text names true b) (right_parenthesis inner)))))))
 
-number_text : (names : Names) (inner : Bool) (a : Expr) (t : Token) (n : ℤ) → flat_map (spelling names) (tokens true a) ≡ code_text names true a
+number_text : (names : Labels) (inner : Bool) (a : Expr) (t : Token) (n : ℤ) → flat_map (spelling names) (tokens true a) ≡ code_text names true a
     → flat_map (spelling names) (open_tokens inner ++ (tokens true a ++ (t ∷ Number n ∷ close_tokens inner))) ≡ left_parenthesis inner ++ code_text names true a ++ spelling names t ++ signed_decimal n ++ right_parenthesis inner
 number_text names inner a t n p =
     let f = flat_map (spelling names) in
@@ -57,7 +57,7 @@ called_apart h t e = simp (append_assoc, append-nil) refl
 chosen_apart : (o a s b t c u d e : List ℕ) → o ++ (a ++ (s ++ (b ++ (t ++ (c ++ (u ++ (d ++ e))))))) ≡ o ++ a ++ s ++ b ++ t ++ c ++ u ++ d ++ e
 chosen_apart o a s b t c u d e = simp append_assoc refl
 
-pub spells : (names : Names) (inner : Bool) (e : Expr) → flat_map (spelling names) (tokens inner e) ≡ code_text names inner e
+pub spells : (names : Labels) (inner : Bool) (e : Expr) → flat_map (spelling names) (tokens inner e) ≡ code_text names inner e
 spells names inner (Constant c) = append-nil (signed_decimal c)
 spells names inner (Local k) = append-nil (spelling names (Name k))
 spells names inner (Member k) = append-nil (spelling names (Arrow k))

@@ -11,10 +11,11 @@ use Rattle.dsv_netlist.specs.declared.node.Node.{Node}
 use Rattle.dsv_netlist.specs.declared.node.Node.TheVariants.{Input, Reg, MulConst, Round, Add, Sub, Fit, Scale}
 use Rattle.dsv_c.specs.declared.c_type.CType.{CType}
 use Rattle.dsv_c.specs.declared.c_type.CType.TheVariants.{Int, Int32, Int64}
-use Rattle.dsv_ctext.specs.declared.names.Names.{Names}
+use Rattle.dsv_ctext.specs.declared.names.Labels.{Labels}
 use Rattle.dsv_c.specs.Syntax.{Helper, Rounded, Fitted}
 use Rattle.dsv_c.specs.Meaning.{is_same_helper}
 use Rattle.dsv_c.specs.Programs.{TypedExpr, codes_of, node_code, node_locals, node_helpers, codes_from, helpers_from, has_helper, functions_among, word_type, program_of}
+use Rattle.dsv_ctext.specs.Comments.{title_text, step_remark}
 use Rattle.dsv_ctext.specs.ProgramTexts.{struct_text, init_text, step_text}
 use Rattle.dsv_ctext.specs.HelperTexts.{function_text}
 use Rattle.dsv_ctext.specs.UnitTexts.{functions_text, unit_text, called_in, called_at, part_text, type_parts}
@@ -88,8 +89,8 @@ functions_written net =
 pub functions_written_as : (net : Net) → functions_text (program_of net) ≡ type_parts net Int ++ (type_parts net Int32 ++ type_parts net Int64)
 functions_written_as net = functions_written net ∙ ap (λ (x : List ℕ). type_parts net Int ++ (type_parts net Int32 ++ x)) (append-nil (type_parts net Int64))
 
-pub unit_written : (names : Names) (net : Net) (word : CType) (many : ℕ) → word ≡ word_type net.format → many ≡ length net.next → unit_text names (length net.next) (program_of net)
-    ≡ struct_text names word many ++ (functions_text (program_of net) ++ (init_text names (length net.next) (program_of net) ++ ((10 ∷ []) ++ step_text names (length net.next) (program_of net))))
+pub unit_written : (names : Labels) (net : Net) (word : CType) (many : ℕ) → word ≡ word_type net.format → many ≡ length net.next → unit_text names (length net.next) (program_of net)
+    ≡ title_text names.remarks ++ (struct_text names word many ++ (functions_text (program_of net) ++ (init_text names (length net.next) (program_of net) ++ ((10 ∷ step_remark names.remarks) ++ step_text names (length net.next) (program_of net)))))
 unit_written names net word many e m =
-    let rest = functions_text (program_of net) ++ (init_text names (length net.next) (program_of net) ++ ((10 ∷ []) ++ step_text names (length net.next) (program_of net))) in
-    ap (λ (t : CType). struct_text names t (length net.next) ++ rest) (sym e) ∙ ap (λ (k : ℕ). struct_text names word k ++ rest) (sym m)
+    let rest = functions_text (program_of net) ++ (init_text names (length net.next) (program_of net) ++ ((10 ∷ step_remark names.remarks) ++ step_text names (length net.next) (program_of net))) in
+    ap (λ (t : CType). title_text names.remarks ++ (struct_text names t (length net.next) ++ rest)) (sym e) ∙ ap (λ (k : ℕ). title_text names.remarks ++ (struct_text names word k ++ rest)) (sym m)

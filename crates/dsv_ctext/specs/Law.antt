@@ -2,7 +2,7 @@
 use Rattle.std.specs.Prelude.{◌≡◌, ◌≤◌, ℕ, Bool, true, List, ◌++◌, Some}
 use Rattle.std.specs.List.{flat_map}
 use Rattle.dsv_c.specs.Syntax.{Expr}
-use Rattle.dsv_ctext.specs.declared.names.Names.{Names}
+use Rattle.dsv_ctext.specs.declared.names.Labels.{Labels}
 use Rattle.dsv_ctext.specs.Texts.{code_text}
 use Rattle.dsv_ctext.specs.Tokens.{Token, spelling, tokens, operand_of, depth, IsPlain}
 
@@ -13,5 +13,5 @@ ExpressionsReadBack = (e : Expr) (n : ℕ) (rest : List Token) → IsPlain e →
 
 -- the text of an expression is that of its tokens
 abbrev pub ExpressionsAreSpelled : Type 0
-ExpressionsAreSpelled = (names : Names) (inner : Bool) (e : Expr)
+ExpressionsAreSpelled = (names : Labels) (inner : Bool) (e : Expr)
     → flat_map (spelling names) (tokens inner e) ≡ code_text names inner e

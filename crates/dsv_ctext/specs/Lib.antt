@@ -1,5 +1,7 @@
 pub mod Texts
 pub mod Tokens
+pub mod Comments
+pub mod TestTexts
 pub mod ProgramTexts
 pub mod HelperTexts
 pub mod UnitTexts

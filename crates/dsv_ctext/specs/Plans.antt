@@ -17,7 +17,7 @@ use Rattle.dsv_ctext.specs.ProgramTexts.{declarations_text, declaration_line, st
 use Rattle.dsv_netlist.specs.declared.node.Node.{Node}
 use Rattle.dsv_netlist.specs.declared.node.Node.TheVariants.{Input, Reg, MulConst, Round, Add}
 use Rattle.dsv_netlist.specs.declared.node.Node.TheVariants.{Sub, Fit, Scale}
-use Rattle.dsv_ctext.specs.declared.names.Names.{Names}
+use Rattle.dsv_ctext.specs.declared.names.Labels.{Labels}
 use Rattle.dsv_ctext.specs.declared.nodes.Arity.{Arity}
 use Rattle.dsv_ctext.specs.declared.nodes.Arity.TheVariants as arity
 use Rattle.dsv_ctext.specs.Texts.{left_parenthesis, right_parenthesis, cast_text, local_name}
@@ -146,7 +146,7 @@ is_operand (Sub left right) = true
 is_operand (Fit of) = true
 is_operand (Scale of) = true
 
-abbrev pub head_of : Names → Net → List CType → List ℕ → Bool → ℕ → Node → List ℕ
+abbrev pub head_of : Labels → Net → List CType → List ℕ → Bool → ℕ → Node → List ℕ
 head_of names net types locals inner i Input = local_name names 0
 head_of names net types locals inner i (Reg register) = local_name names (register + 1)
 head_of names net types locals inner i (MulConst coeff of) =
@@ -159,6 +159,21 @@ head_of names net types locals inner i (Sub left right) =
 head_of names net types locals inner i (Fit of) = local_name names (slice_index locals i)
 head_of names net types locals inner i (Scale of) =
     product_head inner (one_of net) (need_of net i) (type_at types of)
+
+-- the coefficient of a node that is a product
+abbrev pub node_factor : Net → Node → List ℤ
+node_factor net Input = []
+node_factor net (Reg register) = []
+node_factor net (MulConst coeff of) = coeff ∷ []
+node_factor net (Round of) = []
+node_factor net (Add left right) = []
+node_factor net (Sub left right) = []
+node_factor net (Fit of) = []
+node_factor net (Scale of) = one_of net ∷ []
+
+abbrev pub has_values : List ℤ → Bool
+has_values [] = false
+has_values (c ∷ cs) = true
 
 -- the types and the locals' numbers of a netlist's expressions
 pub record IsPlan (net : Net) (types : List CType) (locals : List ℕ) : Type 0 where
@@ -182,19 +197,19 @@ fitted_of (Scale of) = None
 
 -- ---- lines
 -- the locals of node i, which is a line or none
-abbrev pub node_line : Names → Net → ℕ → List ℕ
+abbrev pub node_line : Labels → Net → ℕ → List ℕ
 node_line names net i =
     declarations_text names (locals_before net.format net.nodes [] [] (first_local net) i)
     (node_locals net.format (bounds_of net.format net.nodes) (codes_of net) (node_at net i))
 
-abbrev pub load_line : Names → CType → ℕ → List ℕ
+abbrev pub load_line : Labels → CType → ℕ → List ℕ
 load_line names type k = declaration_line names (k + 1) (record { type = type; value = Member k })
 
-abbrev pub store_of : Names → Net → ℕ → List ℕ
+abbrev pub store_of : Labels → Net → ℕ → List ℕ
 store_of names net k = store_line names (record {
   member = k;
   value = (code_at (codes_of net) (slice_index net.next k)).expr;
 })
 
-abbrev pub init_line : Names → ℕ → List ℕ
+abbrev pub init_line : Labels → ℕ → List ℕ
 init_line names k = store_line names (record { member = k; value = Constant (pos 0) })

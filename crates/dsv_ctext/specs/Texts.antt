@@ -5,7 +5,7 @@ use Rattle.std.specs.Prelude.{Option, Some, None}
 use Rattle.std.specs.Fmt.{signed_decimal, decimal}
 use Rattle.dsv_c.specs.declared.c_type.CType.{CType}
 use Rattle.dsv_c.specs.declared.c_type.CType.TheVariants.{Int, Int32, Int64}
-use Rattle.dsv_ctext.specs.declared.names.Names.{Names}
+use Rattle.dsv_ctext.specs.declared.names.Labels.{Labels}
 use Rattle.dsv_ctext.specs.declared.names.MemberName.{MemberName}
 use Rattle.dsv_ctext.specs.declared.fragments.Fragment.{Fragment}
 use Rattle.dsv_ctext.specs.declared.fragments.Fragment.TheVariants as fragment
@@ -34,15 +34,15 @@ member_text m =
 abbrev pub no_member : MemberName
 no_member = record { section = None; letter = 0; number = 0 }
 
-abbrev pub member_name : Names → ℕ → List ℕ
+abbrev pub member_name : Labels → ℕ → List ℕ
 member_name names k = member_text (slice_index_or names.members.now k no_member)
 
-abbrev pub local_name_after : Names → ℕ → List ℕ
+abbrev pub local_name_after : Labels → ℕ → List ℕ
 local_name_after names k = if nat_lt k (length names.members.now) then member_name names k
     else codes "value_" ++ decimal (k - length names.members.now)
 
 -- local 0 is the parameter, then there are the members, and then the values that reports number
-abbrev pub local_name : Names → ℕ → List ℕ
+abbrev pub local_name : Labels → ℕ → List ℕ
 local_name names zero = codes "x"
 local_name names (suc k) = local_name_after names k
 
@@ -75,7 +75,7 @@ call_head (Fitted t) = fitted_head t
 -- ---- expressions
 -- An operand that has an operator stands in parentheses. `inner` says whether this expression is
 -- an operand.
-abbrev pub code_text : Names → Bool → Expr → List ℕ
+abbrev pub code_text : Labels → Bool → Expr → List ℕ
 code_text names inner (Constant c) = signed_decimal c
 code_text names inner (Local k) = local_name names k
 code_text names inner (Member k) = codes "s->" ++ member_name names k

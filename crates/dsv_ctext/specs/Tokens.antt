@@ -13,7 +13,7 @@ use Rattle.std.specs.Prelude.{List, [], ◌∷◌, ◌++◌, Option, Some, None,
 use Rattle.std.specs.Option.{option_and_then}
 use Rattle.std.specs.Fmt.{signed_decimal}
 use Rattle.dsv_c.specs.declared.c_type.CType.{CType}
-use Rattle.dsv_ctext.specs.declared.names.Names.{Names}
+use Rattle.dsv_ctext.specs.declared.names.Labels.{Labels}
 use Rattle.dsv_c.specs.Syntax.{Helper, Expr, Constant, Local, Member, Cast, Times, Plus, Minus}
 use Rattle.dsv_c.specs.Syntax.{Over, Mask, Flip, Choice, Call}
 use Rattle.dsv_ctext.specs.Texts.{local_name, member_name, type_name, call_head}
@@ -38,7 +38,7 @@ pub data Token : Type 0 where
   Then : Token
   Else : Token
 
-abbrev pub spelling : Names → Token → List ℕ
+abbrev pub spelling : Labels → Token → List ℕ
 spelling names (Number c) = signed_decimal c
 spelling names (Name k) = local_name names k
 spelling names (Arrow k) = codes "s->" ++ member_name names k

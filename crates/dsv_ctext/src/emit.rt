@@ -1,23 +1,25 @@
 // The whole text of a program.
 #![tactic(auto, using(dsv_algebra::proofs::Casts::casts, dsv_base::proofs::TakingLemmas::cut_more))]
 
-ghost use Rattle.std.specs.Prelude.{◌≡◌, ◌<◌, ◌≤◌, ◌++◌, [], length};
+ghost use Rattle.std.specs.Prelude.{◌≡◌, ◌<◌, ◌≤◌, ◌++◌, [], ◌∷◌, length};
 ghost use Rattle.dsv_base.specs.Taking.{Writes};
 ghost use Rattle.dsv_c.specs.Meaning.{is_same_type};
 ghost use Rattle.dsv_ctext.specs.Plans.{IsPlan};
 ghost use Rattle.dsv_c.specs.Programs.{has_helper, program_of, named_function};
 ghost use Rattle.dsv_ctext.specs.ProgramTexts.{struct_text, struct_tail, member_line, none_line};
 ghost use Rattle.dsv_ctext.specs.ProgramTexts.{lines_from};
+ghost use Rattle.dsv_ctext.specs.Comments.{step_remark};
 ghost use Rattle.dsv_ctext.specs.HelperTexts.{function_text};
 ghost use Rattle.dsv_ctext.specs.UnitTexts.{helper_named, called_in, called_at, part_text};
 ghost use Rattle.dsv_ctext.specs.UnitTexts.{type_parts};
-ghost use Rattle.dsv_ctext.specs.UnitTexts.{functions_text, unit_text};
+ghost use Rattle.dsv_ctext.specs.UnitTexts.{functions_text, unit_text, labels_of};
 
 use crate::fragments::{Fragment, put_fragments};
 use crate::functions::{put_fitted, put_rounded};
 use crate::lines::{put_init, put_step};
-use crate::names::{Names, put_member, type_name};
+use crate::names::{Labels, put_member, type_name};
 use crate::nodes::{Plan, helper_type, node_at};
+use crate::remarks::{Remarks, put_step_remark, put_title};
 use crate::types::{locals_of, types_of, word_type};
 use dsv_base::{Failed, Sink, put_all};
 use dsv_c::CType;
@@ -100,7 +102,7 @@ fn put_functions<K: Sink>(sink: &mut K, plan: &Plan) -> Result<(), Failed>
 }
 
 /// Writes the line of a member.
-fn put_member_line<K: Sink>(sink: &mut K, names: &Names, word: CType, k: u32) -> Result<(), Failed>
+fn put_member_line<K: Sink>(sink: &mut K, names: &Labels, word: CType, k: u32) -> Result<(), Failed>
     requires named { k < length names.now.members.now }
     ensures { Writes (K.seen sink.old) (K.seen sink.new) result (member_line names.now word k) }
 {
@@ -114,7 +116,7 @@ fn put_member_line<K: Sink>(sink: &mut K, names: &Names, word: CType, k: u32) ->
 /// Writes the lines of the members.
 fn put_member_lines<K: Sink>(
     sink: &mut K,
-    names: &Names,
+    names: &Labels,
     word: CType,
     many: u32,
 ) -> Result<(), Failed>
@@ -140,7 +142,7 @@ fn put_none_line<K: Sink>(sink: &mut K, many: u32) -> Result<(), Failed>
 }
 
 /// Writes the end of the struct.
-fn put_struct_tail<K: Sink>(sink: &mut K, names: &Names) -> Result<(), Failed>
+fn put_struct_tail<K: Sink>(sink: &mut K, names: &Labels) -> Result<(), Failed>
     ensures { Writes (K.seen sink.old) (K.seen sink.new) result (struct_tail names.now) }
 {
     put_fragments(
@@ -154,7 +156,7 @@ fn put_struct_tail<K: Sink>(sink: &mut K, names: &Names) -> Result<(), Failed>
 }
 
 /// Writes the struct.
-fn put_struct<K: Sink>(sink: &mut K, names: &Names, word: CType, many: u32) -> Result<(), Failed>
+fn put_struct<K: Sink>(sink: &mut K, names: &Labels, word: CType, many: u32) -> Result<(), Failed>
     requires named { many ≤ length names.now.members.now }
     ensures { Writes (K.seen sink.old) (K.seen sink.new) result (struct_text names.now word many) }
 {
@@ -162,6 +164,14 @@ fn put_struct<K: Sink>(sink: &mut K, names: &Names, word: CType, many: u32) -> R
     put_member_lines(sink, names, word, many)?;
     put_none_line(sink, many)?;
     put_struct_tail(sink, names)
+}
+
+/// Writes what stands before the step function.
+fn put_step_start<K: Sink>(sink: &mut K, remarks: &Remarks) -> Result<(), Failed>
+    ensures { Writes (K.seen sink.old) (K.seen sink.new) result (10 ∷ step_remark remarks.now) }
+{
+    put_all(sink, b"\n")?;
+    put_step_remark(sink, remarks)
 }
 
 /// Writes the program of a plan.
@@ -173,18 +183,21 @@ fn put_unit<K: Sink>(sink: &mut K, plan: &Plan) -> Result<(), Failed>
 {
     let word = word_type(&plan.net.format());
     let many = plan.net.registers();
+    put_title(sink, &plan.names.remarks)?;
     put_struct(sink, &plan.names, word, many)?;
     put_functions(sink, plan)?;
     put_init(sink, plan.net, &plan.names)?;
-    put_all(sink, b"\n")?;
+    put_step_start(sink, &plan.names.remarks)?;
     put_step(sink, plan)
 }
 
 /// Writes the C of a netlist: the text of its program, and nothing else. It takes no memory.
-pub fn put_program<K: Sink>(sink: &mut K, net: &Netlist, names: &Names) -> Result<(), Failed>
+#[tactic(auto, using(crate::proofs::SameLabels::unit_elsewhere))]
+pub fn put_program<K: Sink>(sink: &mut K, net: &Netlist, names: &Labels) -> Result<(), Failed>
     requires named { length names.now.members.now ≡ length net.now.next }
     ensures { Writes (K.seen sink.old) (K.seen sink.new) result
-        (unit_text names.now (length net.now.next) (program_of net.now)) }
+        (unit_text (labels_of names.now.prefix.now names.now.members.now names.now.remarks)
+        (length net.now.next) (program_of net.now)) }
 {
     let _count = net.len(); // that it is a netlist, for the proof
     let types = types_of(net);

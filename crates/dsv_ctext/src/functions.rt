@@ -135,14 +135,14 @@ pub(crate) fn put_rounded<K: Sink>(
 }
 
 /// The least word.
-fn low_of(format: &Format) -> i128
+pub(crate) fn low_of(format: &Format) -> i128
     ensures { result ≡ lo (width format.now) }
 {
     i128::from(format.lo())
 }
 
 /// The greatest word.
-fn high_of(format: &Format) -> i128
+pub(crate) fn high_of(format: &Format) -> i128
     ensures { result ≡ hi (width format.now) }
 {
     i128::from(format.hi())

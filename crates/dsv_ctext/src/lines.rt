@@ -13,8 +13,9 @@ ghost use Rattle.dsv_c.specs.Programs.{word_type, program_of, codes_of, code_at}
 ghost use Rattle.dsv_ctext.specs.Texts.{name_limit};
 
 use crate::fragments::{Fragment, put_fragments};
-use crate::names::{Names, fitted_head, put_local, put_member, type_name};
+use crate::names::{Labels, fitted_head, put_local, put_member, type_name};
 use crate::nodes::{Plan, helper_type, node_at, put_node};
+use crate::products::put_fit_end;
 use crate::types::word_type;
 use dsv_base::{Failed, Sink, put_all, put_number};
 use dsv_c::CType;
@@ -37,7 +38,7 @@ fn put_declaration_start<K: Sink>(sink: &mut K, c_type: CType) -> Result<(), Fai
 /// Writes the beginning of a local's line.
 fn put_declaration_head<K: Sink>(
     sink: &mut K,
-    names: &Names,
+    names: &Labels,
     c_type: CType,
     k: u32,
 ) -> Result<(), Failed>
@@ -51,7 +52,7 @@ fn put_declaration_head<K: Sink>(
 }
 
 /// Writes the beginning of a store's line.
-fn put_store_head<K: Sink>(sink: &mut K, names: &Names, k: u32) -> Result<(), Failed>
+fn put_store_head<K: Sink>(sink: &mut K, names: &Labels, k: u32) -> Result<(), Failed>
     requires named { k < length names.now.members.now }
     ensures { Writes (K.seen sink.old) (K.seen sink.new) result (store_head names.now k) }
 {
@@ -61,7 +62,7 @@ fn put_store_head<K: Sink>(sink: &mut K, names: &Names, k: u32) -> Result<(), Fa
 }
 
 /// Writes the line that reads a member.
-fn put_load<K: Sink>(sink: &mut K, names: &Names, word: CType, k: u32) -> Result<(), Failed>
+fn put_load<K: Sink>(sink: &mut K, names: &Labels, word: CType, k: u32) -> Result<(), Failed>
     requires small { k < 1000 }
     requires named { k < length names.now.members.now }
     ensures { Writes (K.seen sink.old) (K.seen sink.new) result (load_line names.now word k) }
@@ -73,7 +74,7 @@ fn put_load<K: Sink>(sink: &mut K, names: &Names, word: CType, k: u32) -> Result
 }
 
 /// Writes the line that sets a member to 0.
-fn put_zero<K: Sink>(sink: &mut K, names: &Names, k: u32) -> Result<(), Failed>
+fn put_zero<K: Sink>(sink: &mut K, names: &Labels, k: u32) -> Result<(), Failed>
     requires named { k < length names.now.members.now }
     ensures { Writes (K.seen sink.old) (K.seen sink.new) result (init_line names.now k) }
 {
@@ -106,7 +107,7 @@ fn put_node_line<K: Sink>(sink: &mut K, plan: &Plan, word: CType, i: u32) -> Res
             put_declaration_head(sink, &plan.names, word, plan.locals[i as usize])?;
             put_all(sink, head)?;
             put_node(sink, plan, of, false)?;
-            put_all(sink, b");\n")
+            put_fit_end(sink, plan, of)
         }
         None => Ok(()),
     }
@@ -129,7 +130,7 @@ fn put_store<K: Sink>(sink: &mut K, plan: &Plan, k: u32) -> Result<(), Failed>
 /// Writes the lines that read the members.
 pub(crate) fn put_loads<K: Sink>(
     sink: &mut K,
-    names: &Names,
+    names: &Labels,
     word: CType,
     many: u32,
 ) -> Result<(), Failed>
@@ -145,7 +146,7 @@ pub(crate) fn put_loads<K: Sink>(
 }
 
 /// Writes the lines that set the members to 0.
-pub(crate) fn put_zeros<K: Sink>(sink: &mut K, names: &Names, many: u32) -> Result<(), Failed>
+pub(crate) fn put_zeros<K: Sink>(sink: &mut K, names: &Labels, many: u32) -> Result<(), Failed>
     requires named { many ≤ length names.now.members.now }
     ensures { Writes (K.seen sink.old) (K.seen sink.new) result
         (lines_from (init_line names.now) 0 many) }
@@ -195,7 +196,12 @@ fn none_store(many: u32) -> &'static [u8]
 }
 
 /// Writes the beginning of the step function.
-fn put_step_head<K: Sink>(sink: &mut K, names: &Names, word: CType, many: u32) -> Result<(), Failed>
+fn put_step_head<K: Sink>(
+    sink: &mut K,
+    names: &Labels,
+    word: CType,
+    many: u32,
+) -> Result<(), Failed>
     ensures { Writes (K.seen sink.old) (K.seen sink.new) result (step_head names.now word many) }
 {
     let word_name = Fragment::Bytes(type_name(word));
@@ -246,7 +252,7 @@ pub(crate) fn put_step<K: Sink>(sink: &mut K, plan: &Plan) -> Result<(), Failed>
 }
 
 /// Writes the beginning of the init function.
-fn put_init_head<K: Sink>(sink: &mut K, names: &Names, many: u32) -> Result<(), Failed>
+fn put_init_head<K: Sink>(sink: &mut K, names: &Labels, many: u32) -> Result<(), Failed>
     ensures { Writes (K.seen sink.old) (K.seen sink.new) result (init_head names.now many) }
 {
     let name = Fragment::Bytes(names.prefix);
@@ -264,7 +270,7 @@ fn put_init_head<K: Sink>(sink: &mut K, names: &Names, many: u32) -> Result<(), 
 }
 
 /// Writes the init function.
-pub(crate) fn put_init<K: Sink>(sink: &mut K, net: &Netlist, names: &Names) -> Result<(), Failed>
+pub(crate) fn put_init<K: Sink>(sink: &mut K, net: &Netlist, names: &Labels) -> Result<(), Failed>
     requires named { length names.now.members.now ≡ length net.now.next }
     ensures { Writes (K.seen sink.old) (K.seen sink.new) result
         (init_text names.now (length net.now.next) (program_of net.now)) }

@@ -10,6 +10,7 @@ ghost use Rattle.dsv_ctext.specs.Texts.{right_parenthesis};
 ghost use Rattle.dsv_ctext.specs.Texts.{rounded_head, fitted_head, product_head, name_limit};
 
 use crate::fragments::{Fragment, put_fragments};
+use crate::remarks::Remarks;
 use dsv_base::{Failed, Sink, put_all};
 use dsv_c::CType;
 
@@ -23,12 +24,15 @@ pub struct MemberName {
     pub number: u32,
 }
 
-/// The names of a text: what its type and functions begin with, and the members, register by
-/// register.
+/// What a text says beside the program.
 #[derive(Clone, Copy)]
-pub struct Names<'a> {
+pub struct Labels<'a> {
+    /// What the names of its type and its functions begin with.
     pub prefix: &'a [u8],
+    /// The names of the members, register by register.
     pub members: &'a [MemberName],
+    /// What its comments say.
+    pub remarks: Remarks,
 }
 
 /// Writes the beginning of a member's name in a cascade.
@@ -72,7 +76,7 @@ fn put_name<K: Sink>(sink: &mut K, member: &MemberName) -> Result<(), Failed>
 }
 
 /// Writes the name of a member.
-pub(crate) fn put_member<K: Sink>(sink: &mut K, names: &Names, k: u32) -> Result<(), Failed>
+pub(crate) fn put_member<K: Sink>(sink: &mut K, names: &Labels, k: u32) -> Result<(), Failed>
     requires there { k < length names.now.members.now }
     ensures { Writes (K.seen sink.old) (K.seen sink.new) result (member_name names.now k) }
 {
@@ -80,7 +84,7 @@ pub(crate) fn put_member<K: Sink>(sink: &mut K, names: &Names, k: u32) -> Result
 }
 
 /// Writes the name of a local.
-pub(crate) fn put_local<K: Sink>(sink: &mut K, names: &Names, k: u32) -> Result<(), Failed>
+pub(crate) fn put_local<K: Sink>(sink: &mut K, names: &Labels, k: u32) -> Result<(), Failed>
     requires { k < name_limit }
     ensures { Writes (K.seen sink.old) (K.seen sink.new) result (local_name names.now k) }
 {

@@ -17,7 +17,7 @@ ghost use Rattle.std.specs.List.{All};
 
 use crate::fragments::{Fragment, put_fragments};
 use crate::names::{
-    Names, cast_text, left_parenthesis, put_local, put_product_head, right_parenthesis,
+    Labels, cast_text, left_parenthesis, put_local, put_product_head, right_parenthesis,
     rounded_head,
 };
 use dsv_base::{Failed, Sink, put_all};
@@ -31,7 +31,7 @@ pub(crate) struct Plan<'a> {
     pub(crate) net: &'a Netlist,
     pub(crate) types: &'a [CType],
     pub(crate) locals: &'a [u32],
-    pub(crate) names: Names<'a>,
+    pub(crate) names: Labels<'a>,
 }
 
 /// The type that a node's value needs.
@@ -86,14 +86,14 @@ pub(crate) enum Arity {
 
 /// The operands that stand in a node's expression.
 #[derive(Clone, Copy)]
-struct Operands {
-    arity: Arity,
-    left: u32,
-    right: u32,
+pub(crate) struct Operands {
+    pub(crate) arity: Arity,
+    pub(crate) left: u32,
+    pub(crate) right: u32,
 }
 
 /// The operands of a node.
-fn operands_of(node: Node) -> Operands
+pub(crate) fn operands_of(node: Node) -> Operands
     ensures arity { result.arity ≡ arity_of node }
     ensures left { result.left ≡ left_of node }
     ensures right { result.right ≡ right_of node }
