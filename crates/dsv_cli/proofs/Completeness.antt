@@ -4,7 +4,7 @@ use Rattle.std.specs.Prelude.{◌≡◌, ◌⊎◌, Some, Ok, Err}
 use Rattle.dsv_base.specs.Counts.{Rose}
 use Rattle.dsv_base.specs.Seen.{FilesSeen}
 use Rattle.dsv_names.specs.declared.design.Design.{Design}
-use Rattle.dsv_command.specs.Table.{JobFiles, controller, cascade, states, plant_loop, cascade_loop, Task, checks_form, checks_ellipsoid, Request, does, checks, generates, runs_file}
+use Rattle.dsv_command.specs.Table.{JobFiles, controller, cascade, states, plant_loop, cascade_loop, Task, checks_form, checks_ellipsoid, Request, does, checks, generates, runs_file, emits_file_test}
 use Rattle.dsv_report.specs.Headings.{verdict_status}
 use Rattle.dsv_report.specs.Report.{verdict_of, stop_status}
 use Rattle.dsv_report.specs.Stops.{Outcome}
@@ -45,6 +45,7 @@ stop_decided old new HasRow rose (stop.LoopRefused r) row none calm = absurd (no
 stop_decided old new HasRow rose (stop.InputRange index value) row none calm = absurd (none (Err (stop.InputRange index value)) (inr (inl refl)) row)
 stop_decided old new HasRow rose (stop.FileTooLong which) row none calm = absurd (none (Err (stop.FileTooLong which)) (inr (inl refl)) row)
 stop_decided old new HasRow rose (stop.JobSize size) row none calm = absurd (none (Err (stop.JobSize size)) (inr (inr (inl refl))) row)
+stop_decided old new HasRow rose (stop.WideCode value) row none calm = absurd (none (Err (stop.WideCode value)) (inr (inr (inl refl))) row)
 stop_decided old new HasRow rose (stop.InputsRefused r) row none calm = absurd (none (Err (stop.InputsRefused r)) (inr (inl refl)) row)
 stop_decided old new HasRow rose (stop.EllipsoidText r) row none calm = absurd (none (Err (stop.EllipsoidText r)) (inr (inr (inr refl))) row)
 stop_decided old new HasRow rose (stop.EllipsoidRefused r) row none calm = absurd (none (Err (stop.EllipsoidRefused r)) (inr (inr (inr refl))) row)
@@ -75,6 +76,7 @@ evidence_rose : (old new : FilesSeen) (task : Task) (which : WhichFile) → IsEv
 evidence_rose old new (checks_form name) which h = file_rose a_certificate old new name which h
 evidence_rose old new (checks_ellipsoid name) which h = file_rose an_ellipsoid old new name which h
 evidence_rose old new (runs_file name outputs) which h = file_rose some_inputs old new name which h
+evidence_rose old new (emits_file_test prefix name) which h = file_rose some_inputs old new name which h
 evidence_rose old new task which h = absurd h
 
 -- words are no fault of a read

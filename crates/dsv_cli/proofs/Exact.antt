@@ -34,7 +34,7 @@ use Rattle.dsv_certfile.specs.Reading.{certificate_in}
 use Rattle.dsv_certfile.specs.declared.certificate.Certificate.{Certificate}
 use Rattle.dsv_certfile.specs.declared.fault.CertRefusal.{CertRefusal}
 use Rattle.dsv_certfile.specs.declared.fault.CertRefusal.TheVariants as unread
-use Rattle.dsv_command.specs.Table.{Request, JobFiles, controller, cascade, plant_loop, cascade_loop, Job, Task, checks_form, checks_ellipsoid, does, checks, generates, runs_file}
+use Rattle.dsv_command.specs.Table.{Request, JobFiles, controller, cascade, plant_loop, cascade_loop, Job, Task, checks_form, checks_ellipsoid, does, checks, generates, runs_file, emits_file_test}
 use Rattle.dsv_command.specs.Table.{states as table_states}
 use Rattle.dsv_report.specs.declared.stop.CertificateFault.TheVariants as fault
 use Rattle.dsv_report.specs.declared.stop.Stop.{Stop}
@@ -346,18 +346,22 @@ evidence_lost old then_old then_new (checks_ellipsoid name) (ellipsoid o) why sa
 evidence_lost old then_old then_new (checks_ellipsoid name) e why same h k = absurd h
 evidence_lost old then_old then_new (runs_file name outputs) (input_list xs) why same h k = file_lost some_inputs old then_old then_new name name xs why same h k
 evidence_lost old then_old then_new (runs_file name outputs) e why same h k = absurd h
+evidence_lost old then_old then_new (emits_file_test prefix name) (input_list xs) why same h k = file_lost some_inputs old then_old then_new name name xs why same h k
+evidence_lost old then_old then_new (emits_file_test prefix name) e why same h k = absurd h
 evidence_lost old then_old then_new task e why same h k = absurd k
 
 evidence_once : (old new then_old then_new : FilesSeen) (task : Task) (v w : Stop) → NamesTheSame old then_old task → IsEvidenceUnread old new task v → IsEvidenceUnread then_old then_new task w → AreOne v w
 evidence_once old new then_old then_new (checks_form name) v w same h k = file_one a_certificate old new then_old then_new name v w same h k
 evidence_once old new then_old then_new (checks_ellipsoid name) v w same h k = file_one an_ellipsoid old new then_old then_new name v w same h k
 evidence_once old new then_old then_new (runs_file name outputs) v w same h k = file_one some_inputs old new then_old then_new name v w same h k
+evidence_once old new then_old then_new (emits_file_test prefix name) v w same h k = file_one some_inputs old new then_old then_new name v w same h k
 evidence_once old new then_old then_new task v w same h k = absurd h
 
 names_back : (old then_old : FilesSeen) (task : Task) → NamesTheSame old then_old task → NamesTheSame then_old old task
 names_back old then_old (checks_form name) same = (same.0, same.2, same.1)
 names_back old then_old (checks_ellipsoid name) same = (same.0, same.2, same.1)
 names_back old then_old (runs_file name outputs) same = (same.0, same.2, same.1)
+names_back old then_old (emits_file_test prefix name) same = (same.0, same.2, same.1)
 names_back old then_old task same = tt
 
 -- ---- words
@@ -519,6 +523,10 @@ evidence_same old then_old (runs_file name outputs) (input_list xs) (input_list 
     ap input_list (read_once (inputs_in same.0) xs ys (file_read some_inputs old name same.0 xs same.1 h).1 (file_read some_inputs then_old name same.0 ys same.2 k).1)
 evidence_same old then_old (runs_file name outputs) (input_list xs) f same h k = absurd k
 evidence_same old then_old (runs_file name outputs) e f same h k = absurd h
+evidence_same old then_old (emits_file_test prefix name) (input_list xs) (input_list ys) same h k =
+    ap input_list (read_once (inputs_in same.0) xs ys (file_read some_inputs old name same.0 xs same.1 h).1 (file_read some_inputs then_old name same.0 ys same.2 k).1)
+evidence_same old then_old (emits_file_test prefix name) (input_list xs) f same h k = absurd k
+evidence_same old then_old (emits_file_test prefix name) e f same h k = absurd h
 evidence_same old then_old task none none same h k = refl
 evidence_same old then_old task none f same h k = absurd k
 evidence_same old then_old task e f same h k = absurd h

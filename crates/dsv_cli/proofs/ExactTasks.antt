@@ -1,5 +1,5 @@
 -- A refusal of a task, or of the check of a certificate, comes exactly where it is stated.
-use Rattle.std.proofs.Common.{◌≡◌, ◌∙◌, ◌⊎◌, inl, inr, sym, ap, refl, ℕ, List, [], ◌∷◌, Bool, true, false, Option, Some, None, Ok, Err}
+use Rattle.std.proofs.Common.{◌≡◌, ◌∙◌, ◌⊎◌, inl, inr, sym, ap, refl, ℕ, ◌<◌, take, List, [], ◌∷◌, Bool, true, false, Option, Some, None, Ok, Err}
 use Rattle.std.specs.Prelude.{Result, ℤ}
 use Rattle.std.proofs.lemmas.Bool.{cases_order}
 use Rattle.dsv_word.specs.Words.{IsWord}
@@ -30,7 +30,7 @@ use Rattle.dsv_certcheck.specs.Found.{found_of, BecomesFor, IsFoundFor, IsFoundA
 use Rattle.dsv_certcheck.specs.StateChecks.{state_check}
 use Rattle.dsv_certcheck.specs.declared.check_refusal.CheckRefusal.{CheckRefusal}
 use Rattle.dsv_certcheck.specs.declared.check_refusal.CheckRefusal.TheVariants as refusal
-use Rattle.dsv_command.specs.Table.{Task, decides, checks_time, writes, searches, seeks_set, measures_gain, simulates, checks_form, seeks_form, checks_ellipsoid, seeks_ellipsoid, runs_file, tells_words}
+use Rattle.dsv_command.specs.Table.{Task, decides, checks_time, writes, searches, seeks_set, measures_gain, simulates, checks_form, seeks_form, checks_ellipsoid, seeks_ellipsoid, runs_file, tells_words, emits_code, emits_test, emits_file_test}
 use Rattle.dsv_report.specs.declared.answers.Answer.TheVariants as answer
 use Rattle.dsv_report.specs.declared.answers.OutputError.{OutputError}
 use Rattle.dsv_report.specs.declared.stop.CertificateFault.TheVariants as fault
@@ -49,6 +49,13 @@ use Rattle.dsv_files.specs.JobTexts.{JobTexts, of_one, of_sections, of_state_fil
 use Rattle.dsv_cli.specs.Loops.{IsOfLoop}
 use Rattle.dsv_cli.specs.Searching.{IsOfFormula, IsOfSearch}
 use Rattle.dsv_cli.specs.Simulating.{IsOfRun}
+use Rattle.dsv_cli.specs.Emitting.{members_of, origin_of, IsOfCode, IsOfCodeTest}
+use Rattle.dsv_c.specs.Codable.{IsCodable, IsWideValue}
+use Rattle.dsv_netlist.specs.Conditions.{is_fit}
+use Rattle.dsv_netlist.specs.Nodes.{Net}
+use Rattle.dsv_ctext.specs.declared.names.MemberName.{MemberName}
+use Rattle.dsv_ctext.specs.declared.remarks.Origin.{Origin}
+use Rattle.std.specs.Prelude.{count_by}
 use Rattle.dsv_cli.specs.States.{IsOfForm, IsOfStateTable}
 use Rattle.dsv_cli.proofs.OneAnswerTasks.{one_outside, within_or_large}
 use Rattle.dsv_files.proofs.Pairwise.{at_place}
@@ -120,6 +127,43 @@ run_exact s inputs outputs (stop.InputRange i v) (Err stop.NoMemory) h kept k = 
 run_exact s inputs outputs (stop.InputRange i v) found h kept k = absurd k
 run_exact s inputs outputs stop.NoMemory found h kept k = absurd (kept tt)
 run_exact s inputs outputs why found h kept k = absurd h
+
+-- ---- C
+wide_or_not : (net : Net) (v : ℕ) → IsCodable net → IsWideValue net v → ⊥
+wide_or_not net v c h = h.wide (c h.node h.there)
+
+wide_by : (net : Net) (v w : ℕ) (h : IsWideValue net v) (k : IsWideValue net w) → (h.node ≡ k.node) ⊎ ((h.node < k.node) ⊎ (k.node < h.node)) → v ≡ w
+wide_by net v w h k (inl e) = h.count ∙ ap (λ (n : ℕ). count_by is_fit (take n net.nodes)) e ∙ sym k.count
+wide_by net v w h k (inr (inl l)) = absurd (h.wide (k.before h.node l))
+wide_by net v w h k (inr (inr l)) = absurd (k.wide (h.before k.node l))
+
+one_wide : (net : Net) (v w : ℕ) → IsWideValue net v → IsWideValue net w → v ≡ w
+one_wide net v w h k = wide_by net v w h k (cases_order h.node k.node)
+
+same_wide : (v w : ℕ) → w ≡ v → IsThis (stop.WideCode v) (Err (stop.WideCode w))
+same_wide v w e = inl (ap (λ x. stopped_by (stop.WideCode x)) e)
+
+code_exact : (s : SubjectView) (prefix : List ℕ) (members : List MemberName) (origin : Origin) → IsExact (IsOfCode s prefix members origin)
+code_exact s prefix members origin (stop.WideCode v) (Ok (answer.Code t)) h kept k = absurd (wide_or_not s.net v k.codable h)
+code_exact s prefix members origin (stop.WideCode v) (Err (stop.WideCode w)) h kept k = same_wide v w (one_wide s.net w v k h)
+code_exact s prefix members origin (stop.WideCode v) (Err stop.NoMemory) h kept k = inr tt
+code_exact s prefix members origin (stop.WideCode v) found h kept k = absurd k
+code_exact s prefix members origin stop.NoMemory found h kept k = absurd (kept tt)
+code_exact s prefix members origin why found h kept k = absurd h
+
+test_exact : (s : SubjectView) (prefix : List ℕ) (members : List MemberName) (origin : Origin) (inputs : List ℤ) → IsExact (IsOfCodeTest s prefix members origin inputs)
+test_exact s prefix members origin inputs (stop.InputRange i v) (Ok (answer.Code t)) h kept k = absurd (h.outside (at_place (IsWord s.runs.format) inputs i v h.there k.0))
+test_exact s prefix members origin inputs (stop.InputRange i v) (Err (stop.WideCode w)) h kept k = absurd (h.outside (at_place (IsWord s.runs.format) inputs i v h.there k.0))
+test_exact s prefix members origin inputs (stop.InputRange i v) (Err (stop.InputRange j w)) h kept k = inl (one_outside s.runs.format inputs j i w v k h (cases_order j i))
+test_exact s prefix members origin inputs (stop.InputRange i v) (Err stop.NoMemory) h kept k = inr tt
+test_exact s prefix members origin inputs (stop.InputRange i v) found h kept k = absurd k
+test_exact s prefix members origin inputs (stop.WideCode v) (Ok (answer.Code t)) h kept k = absurd (wide_or_not s.net v k.1.codable h.1)
+test_exact s prefix members origin inputs (stop.WideCode v) (Err (stop.WideCode w)) h kept k = same_wide v w (one_wide s.net w v k.1 h.1)
+test_exact s prefix members origin inputs (stop.WideCode v) (Err (stop.InputRange j w)) h kept k = absurd (k.outside (at_place (IsWord s.runs.format) inputs j w k.there h.0))
+test_exact s prefix members origin inputs (stop.WideCode v) (Err stop.NoMemory) h kept k = inr tt
+test_exact s prefix members origin inputs (stop.WideCode v) found h kept k = absurd k
+test_exact s prefix members origin inputs stop.NoMemory found h kept k = absurd (kept tt)
+test_exact s prefix members origin inputs why found h kept k = absurd h
 
 -- ---- ellipsoids
 some_once : {A : Type 0} → (found : Option A) (a b : A) → found ≡ Some a → found ≡ Some b → a ≡ b
@@ -198,6 +242,9 @@ task_exact measures_gain e texts words why found h kept k = gain_exact (ErrorIs 
 task_exact (simulates xs outputs) e texts words why found h kept k = run_exact (subject_of words) xs outputs why found h kept k
 task_exact (runs_file name outputs) (input_list xs) texts words why found h kept k = run_exact (subject_of words) xs outputs why found h kept k
 task_exact tells_words e texts words why found h kept k = absurd (cc)
+task_exact (emits_code prefix) e texts words why found h kept k = code_exact (subject_of words) prefix (members_of words) (origin_of words) why found h kept k
+task_exact (emits_test prefix xs) e texts words why found h kept k = test_exact (subject_of words) prefix (members_of words) (origin_of words) xs why found h kept k
+task_exact (emits_file_test prefix name) (input_list xs) texts words why found h kept k = test_exact (subject_of words) prefix (members_of words) (origin_of words) xs why found h kept k
 task_exact (decides p sc) e (of_one c) (of_words q) why found h kept k = absurd (kept (decision_lost sc h.poly why h.decision))
 task_exact (decides Stability sc) e (of_sections c cs) (of_series s) why found h kept k = absurd (kept (sections_lost sc s why h))
 task_exact (decides Stability true) e (of_state_file c) (of_state_words s) why found h kept k = absurd (kept (table_lost s why h))
@@ -223,6 +270,9 @@ no_task_fault measures_gain e texts words which h = h
 no_task_fault (simulates xs outputs) e texts words which h = h
 no_task_fault (runs_file name outputs) (input_list xs) texts words which h = h
 no_task_fault tells_words e texts words which h = absurd (cc)
+no_task_fault (emits_code prefix) e texts words which h = h
+no_task_fault (emits_test prefix xs) e texts words which h = h
+no_task_fault (emits_file_test prefix name) (input_list xs) texts words which h = h
 no_task_fault (decides p sc) e (of_one c) (of_words q) which h = h.decision
 no_task_fault (decides Stability false) e (of_sections c cs) (of_series s) which h = h
 no_task_fault (decides Stability true) e (of_sections c cs) (of_series s) which h = h

@@ -10,6 +10,7 @@ pub mod CheckedWords
 pub mod Completeness
 pub mod Decisions
 pub mod Exact
+pub mod Emissions
 pub mod ExactTasks
 pub mod Gains
 pub mod Inputs

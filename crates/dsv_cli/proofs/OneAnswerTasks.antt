@@ -23,7 +23,7 @@ use Rattle.dsv_loop.specs.Loops.{loop_of}
 use Rattle.dsv_loop.specs.declared.refusal.LoopRefusal.{LoopRefusal}
 use Rattle.dsv_certfile.specs.declared.certificate.Certificate.{Certificate}
 use Rattle.dsv_certfile.specs.declared.ellipsoid.Ellipsoid.{Ellipsoid}
-use Rattle.dsv_command.specs.Table.{Task, decides, checks_time, writes, searches, seeks_set, measures_gain, simulates, checks_form, seeks_form, checks_ellipsoid, seeks_ellipsoid, runs_file, tells_words}
+use Rattle.dsv_command.specs.Table.{Task, decides, checks_time, writes, searches, seeks_set, measures_gain, simulates, checks_form, seeks_form, checks_ellipsoid, seeks_ellipsoid, runs_file, tells_words, emits_code, emits_test, emits_file_test}
 use Rattle.dsv_report.specs.declared.answers.Answer.{Answer}
 use Rattle.dsv_report.specs.declared.answers.OutputError.{OutputError}
 use Rattle.dsv_report.specs.declared.answers.Answer.TheVariants as answer
@@ -32,6 +32,9 @@ use Rattle.dsv_report.specs.Stops.{Outcome}
 use Rattle.dsv_lyapunov.specs.Shown.{ShowsFall, ShowsKeptAway}
 use Rattle.dsv_cli.specs.Proposers.{HasClosedForm}
 use Rattle.dsv_cli.specs.Simulating.{IsOfRun}
+use Rattle.dsv_cli.specs.Emitting.{members_of, origin_of, IsOfCode, IsOfCodeTest}
+use Rattle.dsv_ctext.specs.declared.names.MemberName.{MemberName}
+use Rattle.dsv_ctext.specs.declared.remarks.Origin.{Origin}
 use Rattle.dsv_word.specs.Words.{IsFirstOutside}
 use Rattle.dsv_cli.specs.Searching.{IsOfFormula, IsOfSearch}
 use Rattle.dsv_meaning.specs.Equations.{Past}
@@ -148,6 +151,16 @@ one_run s inputs true a b x y h k = absurd h
 one_words : (e : Evidence) (texts : JobTexts) (words : JobWords) → HasOne (IsTaskDone tells_words e texts words)
 one_words e texts words answer.Words b x y h k = sym k
 one_words e texts words a b x y h k = absurd (cc)
+
+one_code : (s : SubjectView) (prefix : List ℕ) (members : List MemberName) (origin : Origin) → HasOne (IsOfCode s prefix members origin)
+one_code s prefix members origin (answer.Code t) (answer.Code u) x y h k = ap (λ it. Ok (answer.Code it)) (h.text_is ∙ sym k.text_is)
+one_code s prefix members origin (answer.Code t) b x y h k = absurd k
+one_code s prefix members origin a b x y h k = absurd h
+
+one_test : (s : SubjectView) (prefix : List ℕ) (members : List MemberName) (origin : Origin) (inputs : List ℤ) → HasOne (IsOfCodeTest s prefix members origin inputs)
+one_test s prefix members origin inputs (answer.Code t) (answer.Code u) x y h k = ap (λ it. Ok (answer.Code it)) (h.1.text_is ∙ sym k.1.text_is)
+one_test s prefix members origin inputs (answer.Code t) b x y h k = absurd k
+one_test s prefix members origin inputs a b x y h k = absurd h
 
 -- ---- questions about runs
 pub within_or_large : (size given limit : ℕ) → size ≤ limit → given ≡ size → limit < given → ⊥
@@ -317,6 +330,9 @@ one_task measures_gain e texts words a b x y h k = one_gain (ErrorIs words) (sub
 one_task (simulates xs outputs) e texts words a b x y h k = one_run (subject_of words) xs outputs a b x y h k
 one_task (runs_file name outputs) (input_list xs) texts words a b x y h k = one_run (subject_of words) xs outputs a b x y h k
 one_task tells_words e texts words a b x y h k = one_words e texts words a b x y h k
+one_task (emits_code prefix) e texts words a b x y h k = one_code (subject_of words) prefix (members_of words) (origin_of words) a b x y h k
+one_task (emits_test prefix xs) e texts words a b x y h k = one_test (subject_of words) prefix (members_of words) (origin_of words) xs a b x y h k
+one_task (emits_file_test prefix name) (input_list xs) texts words a b x y h k = one_test (subject_of words) prefix (members_of words) (origin_of words) xs a b x y h k
 one_task (decides p sc) e (of_one c) (of_words q) a b x y h k = one_property p sc q a b x y h k
 one_task (decides Stability sc) e (of_sections c cs) (of_series s) a b x y h k = one_sections sc s a b x y h k
 one_task (decides Stability true) e (of_state_file c) (of_state_words s) a b x y h k = absurd (states_open s a h x)

@@ -6,7 +6,7 @@ use Rattle.dsv_names.specs.declared.design.Design.{Design}
 use Rattle.dsv_quantiser.specs.QuantisedView.{QuantisedView}
 use Rattle.dsv_certfile.specs.declared.certificate.Certificate.{Certificate}
 use Rattle.dsv_certfile.specs.declared.job.CertWords.{CertWords}
-use Rattle.dsv_command.specs.Table.{Job, does, JobFiles, controller, cascade, states, plant_loop, cascade_loop, kind_of, Task, checks_form, checks_ellipsoid, runs_file, generates}
+use Rattle.dsv_command.specs.Table.{Job, does, JobFiles, controller, cascade, states, plant_loop, cascade_loop, kind_of, Task, checks_form, checks_ellipsoid, runs_file, emits_file_test, generates}
 use Rattle.dsv_command.specs.declared.kind.Kind.TheVariants as of_kind
 use Rattle.dsv_template.specs.declared.candidate.Candidate.{Candidate}
 use Rattle.dsv_template.specs.declared.shape.Shape.{Shape}
@@ -32,6 +32,8 @@ evidence_earlier old then (checks_ellipsoid name) (ellipsoid o) k h = text_earli
 evidence_earlier old then (checks_ellipsoid name) e k h = absurd h
 evidence_earlier old then (runs_file name outputs) (input_list xs) k h = text_earlier some_inputs old then name xs k h
 evidence_earlier old then (runs_file name outputs) e k h = absurd h
+evidence_earlier old then (emits_file_test prefix name) (input_list xs) k h = text_earlier some_inputs old then name xs k h
+evidence_earlier old then (emits_file_test prefix name) e k h = absurd h
 evidence_earlier old then task none k h = tt
 evidence_earlier old then task e k h = absurd h
 
@@ -39,6 +41,7 @@ evidence_unread_earlier : (old then new : FilesSeen) (task : Task) (why : Stop) 
 evidence_unread_earlier old then new (checks_form name) why k l h = file_earlier a_certificate old then new name why k l h
 evidence_unread_earlier old then new (checks_ellipsoid name) why k l h = file_earlier an_ellipsoid old then new name why k l h
 evidence_unread_earlier old then new (runs_file name outputs) why k l h = file_earlier some_inputs old then new name why k l h
+evidence_unread_earlier old then new (emits_file_test prefix name) why k l h = file_earlier some_inputs old then new name why k l h
 evidence_unread_earlier old then new task why k l h = absurd h
 
 -- ---- from the texts on

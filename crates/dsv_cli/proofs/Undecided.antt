@@ -14,7 +14,7 @@ use Rattle.std.specs.Prelude.{Result, Err, [], ◌∷◌}
 use Rattle.dsv_cascade.specs.Cascades.{CascadeView, sections_of}
 use Rattle.dsv_quantiser.specs.QuantisedView.{QuantisedView}
 use Rattle.dsv_cli.specs.Causes.{IsOfProperty}
-use Rattle.dsv_command.specs.Table.{Task, decides, checks_form, checks_ellipsoid, searches, measures_gain, simulates, Request, does, checks, generates, runs_file, tells_words}
+use Rattle.dsv_command.specs.Table.{Task, decides, checks_form, checks_ellipsoid, searches, measures_gain, simulates, Request, does, checks, generates, runs_file, tells_words, emits_code, emits_test, emits_file_test}
 use Rattle.dsv_report.specs.declared.answers.Answer.TheVariants as answer
 use Rattle.dsv_report.specs.Stops.{Outcome}
 use Rattle.dsv_cli.specs.JobRows.{IsOfSections, IsTaskDone, IsOfCheck, IsAnswered}
@@ -51,6 +51,9 @@ task_undecided (simulates xs true) e t w poly kept verdict h = absurd h
 task_undecided (runs_file name false) (input_list xs) t w poly kept verdict h = absurd h
 task_undecided (runs_file name true) (input_list xs) t w poly kept verdict h = absurd h
 task_undecided tells_words e t w poly kept verdict h = absurd (cc)
+task_undecided (emits_code prefix) e t w poly kept verdict h = absurd h
+task_undecided (emits_test prefix xs) e t w poly kept verdict h = absurd h
+task_undecided (emits_file_test prefix name) (input_list xs) t w poly kept verdict h = absurd h
 task_undecided (decides p flag) e (of_one c) (of_words q) poly kept verdict h = property_undecided p flag q poly kept verdict h
 task_undecided (decides Stability flag) e (of_sections c cs) (of_series s) poly kept verdict h = absurd (sections_undecided flag s poly kept verdict h)
 task_undecided (decides Stability true) e (of_state_file c) (of_state_words s) poly kept verdict h = absurd h

@@ -2,7 +2,7 @@
 use Rattle.std.specs.Prelude.{◌≡◌, ◌⊎◌, Some, Err}
 use Rattle.dsv_base.specs.Seen.{FilesSeen}
 use Rattle.dsv_command.specs.Table.{Task, checks_form, checks_ellipsoid, Request}
-use Rattle.dsv_command.specs.Table.{does, checks, generates, runs_file}
+use Rattle.dsv_command.specs.Table.{does, checks, generates, runs_file, emits_file_test}
 use Rattle.dsv_report.specs.declared.stop.Stop.{Stop}
 use Rattle.dsv_report.specs.Stops.{Outcome}
 use Rattle.dsv_cli.specs.Accepted.{HoldsTheSame, HoldTheSame}
@@ -14,6 +14,7 @@ abbrev pub NamesTheSame : FilesSeen → FilesSeen → Task → Type 0
 NamesTheSame old then_old (checks_form name) = HoldsTheSame old name then_old name
 NamesTheSame old then_old (checks_ellipsoid name) = HoldsTheSame old name then_old name
 NamesTheSame old then_old (runs_file name outputs) = HoldsTheSame old name then_old name
+NamesTheSame old then_old (emits_file_test prefix name) = HoldsTheSame old name then_old name
 NamesTheSame old then_old task = Unit {0}
 
 -- all files that a request names hold the same bytes, which are told

@@ -29,6 +29,7 @@ use Rattle.dsv_command.specs.Table.{Task, decides, checks_time, writes, searches
 use Rattle.dsv_command.specs.Table.{seeks_set, measures_gain, simulates, checks_form, seeks_form}
 use Rattle.dsv_command.specs.Table.{checks_ellipsoid, seeks_ellipsoid, Request, does, checks}
 use Rattle.dsv_command.specs.Table.{generates, runs_file, tells_words}
+use Rattle.dsv_command.specs.Table.{emits_code, emits_test, emits_file_test}
 use Rattle.dsv_report.specs.declared.answers.Answer.TheVariants as answer
 use Rattle.dsv_report.specs.declared.answers.OutputError.{OutputError}
 use Rattle.dsv_report.specs.declared.stop.Stop.{Stop}
@@ -36,6 +37,7 @@ use Rattle.dsv_report.specs.declared.stop.Stop.TheVariants as stop
 use Rattle.dsv_report.specs.Stops.{Outcome}
 use Rattle.dsv_cli.specs.Causes.{IsOfProperty, IsOfSets, IsOfTiming}
 use Rattle.dsv_cli.specs.Checking.{stop_of_check}
+use Rattle.dsv_cli.specs.Emitting.{members_of, origin_of, IsOfCode, IsOfCodeTest}
 use Rattle.dsv_cli.specs.Ellipsoids.{IsOfOffer, IsOfSoughtEllipsoid}
 use Rattle.dsv_cli.specs.Gain.{IsErrorOf, IsNotSought, IsOfGain}
 use Rattle.dsv_cli.specs.Causes.{IsOfGeneration}
@@ -84,6 +86,12 @@ IsTaskDone (simulates xs outputs) evidence texts words found =
 IsTaskDone (runs_file name outputs) (input_list xs) texts words found =
     IsOfRun (subject_of words) xs outputs found
 IsTaskDone tells_words evidence texts words found = found ≡ Ok answer.Words
+IsTaskDone (emits_code prefix) evidence texts words found =
+    IsOfCode (subject_of words) prefix (members_of words) (origin_of words) found
+IsTaskDone (emits_test prefix xs) evidence texts words found =
+    IsOfCodeTest (subject_of words) prefix (members_of words) (origin_of words) xs found
+IsTaskDone (emits_file_test prefix name) (input_list xs) texts words found =
+    IsOfCodeTest (subject_of words) prefix (members_of words) (origin_of words) xs found
 IsTaskDone (decides property schur_cohn) evidence (of_one c) (of_words q) found =
     IsOfProperty property schur_cohn q found
 IsTaskDone (decides Stability schur_cohn) evidence (of_sections c cs) (of_series s) found =

@@ -18,6 +18,7 @@ pub mod Searching
 pub mod SetAsking
 pub mod Sets
 pub mod Simulating
+pub mod Emitting
 pub mod Stages
 pub mod States
 pub mod Told

@@ -5,6 +5,7 @@ use Rattle.dsv_names.specs.declared.design.Design.{Design}
 use Rattle.dsv_quantiser.specs.QuantisedView.{QuantisedView}
 use Rattle.dsv_certfile.specs.declared.job.CertWords.{CertWords}
 use Rattle.dsv_command.specs.Table.{JobFiles, Request, Task, decides, seeks_set, tells_words}
+use Rattle.dsv_command.specs.Table.{emits_code, emits_test, emits_file_test}
 use Rattle.dsv_command.specs.declared.kind.Kind.{Kind}
 use Rattle.dsv_command.specs.declared.kind.Kind.TheVariants as of_kind
 use Rattle.dsv_report.specs.declared.stop.Stop.{Stop}
@@ -85,11 +86,17 @@ abbrev pub NeedsNoProposer : Task → Type 0
 NeedsNoProposer (decides property schur_cohn) = ⊥
 NeedsNoProposer (seeks_set conflicts) = ⊥
 NeedsNoProposer tells_words = ⊥
+NeedsNoProposer (emits_code prefix) = ⊥
+NeedsNoProposer (emits_test prefix inputs) = ⊥
+NeedsNoProposer (emits_file_test prefix name) = ⊥
 NeedsNoProposer other = Unit {0}
 
--- the task asks more than what the words are
+-- the task asks more than what the words are, and for no C
 abbrev pub AsksMore : Task → Type 0
 AsksMore tells_words = ⊥
+AsksMore (emits_code prefix) = ⊥
+AsksMore (emits_test prefix inputs) = ⊥
+AsksMore (emits_file_test prefix name) = ⊥
 AsksMore other = Unit {0}
 
 -- it is a controller alone

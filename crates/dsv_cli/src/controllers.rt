@@ -71,6 +71,9 @@ pub(crate) fn controller_answer(
         | Task::SeekSet(_)
         | Task::CheckForm(_)
         | Task::SeekForm
-        | Task::TellWords => { unreachable!() }
+        | Task::TellWords
+        | Task::EmitCode(_)
+        | Task::EmitTest(_, _)
+        | Task::EmitFileTest(_, _) => { unreachable!() }
     }
 }

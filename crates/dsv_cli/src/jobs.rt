@@ -20,6 +20,7 @@ ghost use Rattle.dsv_files.specs.Views.{IsEvidenceFor, evidence_view, texts_view
 
 use crate::cascades::cascade_answer;
 use crate::controllers::controller_answer;
+use crate::emission::emission_outcome;
 use crate::in_words::{InWords, words_of};
 use crate::loops::loop_answer;
 use crate::proposers::Proposers;
@@ -179,6 +180,9 @@ fn task_outcome(
 {
     match task {
         Task::TellWords => Ok(Answer::Words),
+        Task::EmitCode(_) | Task::EmitTest(_, _) | Task::EmitFileTest(_, _) => {
+            emission_outcome(alloc, subject, task, evidence)
+        }
         _ => question_outcome(alloc, subject, task, evidence, proposers),
     }
 }

@@ -7,6 +7,7 @@ mod cascades;
 mod check;
 mod command;
 mod controllers;
+mod emission;
 mod forms;
 mod gain;
 mod in_words;

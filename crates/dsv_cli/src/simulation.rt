@@ -38,7 +38,7 @@ fn find_outside(format: &Format, inputs: &[i64]) -> Option<Numbered>
 }
 
 /// Why there is no answer where an input is no word of the format.
-fn outside_stop(format: &Format, inputs: &[i64]) -> Option<Stop>
+pub(crate) fn outside_stop(format: &Format, inputs: &[i64]) -> Option<Stop>
     requires { length inputs.now ≤ 65536 }
     ensures none { IfNone result (All (IsWord format.now) inputs.now) }
     ensures first { IfSome result (λ why. (index : ℕ) × (value : ℤ)

@@ -14,6 +14,7 @@ pub mod InputLemmas
 pub mod MarkLemmas
 pub mod NameLemmas
 pub mod OnlyLaws
+pub mod OwnOptions
 pub mod PartLaws
 pub mod RequestLaws
 pub mod SectionNameLaws

@@ -5,7 +5,7 @@ use Rattle.dsv_names.specs.declared.property.RootProperty.TheVariants.{Stability
 use Rattle.dsv_command.specs.declared.kind.Kind.{Kind}
 use Rattle.dsv_command.specs.declared.kind.Kind.TheVariants as of_kind
 use Rattle.dsv_command.specs.ClapCommand.{filled}
-use Rattle.dsv_command.specs.Finding.{unless_given, unless_file, first_other, task_in, task_part, kind_in, check_states, is_incomplete, check_cell, certificate_part, check_certificate, words_part, check_words, check_realisation, check_cell_whole, check_whole, files_in, check_job, job_in, all_job_options, checked_files, check_in, generation_in, done, request_by, asked_by, asked_of}
+use Rattle.dsv_command.specs.Finding.{unless_given, unless_file, first_other, task_in, task_part, kind_in, check_states, is_incomplete, check_cell, certificate_part, check_certificate, words_part, check_words, check_realisation, check_cell_whole, check_whole, files_in, check_own, check_rest, check_job, job_in, all_job_options, checked_files, check_in, generation_in, done, request_by, asked_by, asked_of}
 use Rattle.dsv_command.specs.Limits.{default_controllers}
 use Rattle.dsv_command.specs.Options.{command_options}
 use Rattle.dsv_command.specs.Parts.{PartView, flag, is_given, file_of, value_of, has_empty}
@@ -42,6 +42,9 @@ whole_task parts v kind t (IsTask.gain ps w e g) h = whole_cell kind t h
 whole_task parts v kind t (IsTask.simulation ps w xs e) h = whole_cell kind t h
 whole_task parts v kind t (IsTask.file_run ps w name e) h = whole_cell kind t h
 whole_task parts v kind t (IsTask.words_alone ps w e) h = whole_cell kind t h
+whole_task parts v kind t (IsTask.code ps w e) h = whole_cell kind t h
+whole_task parts v kind t (IsTask.code_test ps w xs e f) h = whole_cell kind t h
+whole_task parts v kind t (IsTask.code_file_test ps w name e f) h = whole_cell kind t h
 whole_task parts v kind t (IsTask.named_form ps w name e f) h = whole_cell kind t h
 whole_task parts v kind t (IsTask.sought_form ps w e l) h = whole_cell kind t h
 whole_task parts v kind t (IsTask.named_ellipsoid ps w name e u l) h = rw u refl
@@ -57,6 +60,9 @@ realised_task parts v t (IsTask.gain ps w e g) = refl
 realised_task parts v t (IsTask.simulation ps w xs e) = refl
 realised_task parts v t (IsTask.file_run ps w name e) = refl
 realised_task parts v t (IsTask.words_alone ps w e) = refl
+realised_task parts v t (IsTask.code ps w e) = refl
+realised_task parts v t (IsTask.code_test ps w xs e f) = refl
+realised_task parts v t (IsTask.code_file_test ps w name e f) = refl
 realised_task parts v t (IsTask.named_form ps w name e f) = refl
 realised_task parts v t (IsTask.sought_form ps w e l) = refl
 realised_task parts v t (IsTask.named_ellipsoid ps w name e u l) = refl
@@ -69,6 +75,7 @@ certified_by false m reason h = refl
 
 -- ---- from the rules to the request
 job_checked : (parts : List PartView) (v : Values) (job : Job) → IsJobOf parts v job → kind_in parts ≡ kind_of job.files → check_job parts job.task v.design.realisation ≡ Ok tt
+unfolding check_own check_rest
 job_checked parts v job h kind =
     let only = first_by_only parts (task_options job.task) all_task_options h.task_options in
     let certified = certified_by (is_given parts (codes "certificate")) (may_certify (kind_of job.files) job.task) (apart (certificate_part (kind_of job.files) job.task) (flag (codes "certificate")))
@@ -169,6 +176,7 @@ record JobChecked (parts : List PartView) (v : Values) (t : Task) : Type 0 where
   pub whole : IsWhole parts v (kind_in parts) t
 
 job_checks : (parts : List PartView) (v : Values) (t : Task) → check_job parts t v.design.realisation ≡ Ok tt → JobChecked parts v t
+unfolding check_own check_rest
 job_checks parts v t h =
     let other = first_other parts (task_options t) all_task_options in
     let a = passed (unless_given (task_part t) other) _ tt h in

@@ -1,6 +1,6 @@
 -- The task of parts, by the rules and as it is found.
 use Rattle.std.proofs.Common.{◌≡◌, ℕ, ℤ, Bool, true, false, List, Option, Some, None, Ok, Err, refl, sym, ap, subst, ◌∙◌}
-use Rattle.std.specs.Prelude.{codes, if◌then◌else◌}
+use Rattle.std.specs.Prelude.{codes, if◌then◌else◌, Result}
 use Rattle.std.specs.List.{list_any}
 use Rattle.std.specs.Str.{bytes_eq}
 use Rattle.dsv_names.specs.declared.property.RunProperty.TheVariants.{Overflow, LimitCycle}
@@ -10,11 +10,11 @@ use Rattle.dsv_names.specs.declared.property.Property.TheVariants.{OfRuns, OfRoo
 use Rattle.dsv_names.specs.declared.realisation.Realisation.{Realisation}
 use Rattle.dsv_names.specs.declared.realisation.Realisation.TheVariants.{Dfi}
 use Rattle.dsv_command.specs.declared.kind.Kind.{Kind}
-use Rattle.dsv_command.specs.Finding.{task_if, is_stability, is_overflow, formula_task, plain_task, run_task, flag_task, ellipsoid_task, form_task, words_task, task_by, task_in, check_realisation, check_whole}
+use Rattle.dsv_command.specs.Finding.{task_if, is_stability, is_overflow, formula_task, plain_task, run_task, flag_task, ellipsoid_task, form_task, words_task, task_by, code_task, code_prefix, task_in, check_realisation, check_whole}
 use Rattle.dsv_command.specs.Parts.{PartView, is_given, value_of}
-use Rattle.dsv_command.specs.Reasons.{no_task}
+use Rattle.dsv_command.specs.Reasons.{Reason, no_task}
 use Rattle.dsv_command.specs.Rules.{AreInputs, IsGivenAs, AreValues, HasOnly, IsTask}
-use Rattle.dsv_command.specs.Table.{Task, decides, checks_time, writes, searches, seeks_set, measures_gain, simulates, runs_file, tells_words, checks_form, seeks_form, checks_ellipsoid, seeks_ellipsoid, task_options, all_task_options}
+use Rattle.dsv_command.specs.Table.{Task, decides, checks_time, writes, searches, seeks_set, measures_gain, simulates, runs_file, tells_words, emits_code, emits_test, emits_file_test, checks_form, seeks_form, checks_ellipsoid, seeks_ellipsoid, task_options, all_task_options}
 use Rattle.dsv_command.specs.Values.{Values}
 use Rattle.dsv_command.proofs.OnlyLaws.{off, no_value}
 
@@ -31,6 +31,7 @@ pub record Others (parts : List PartView) (own : List (List ℕ)) : Type 0 where
   pub unbounded : list_any (bytes_eq (codes "unbounded")) own ≡ false → is_given parts (codes "unbounded") ≡ false
   pub formula : list_any (bytes_eq (codes "formula")) own ≡ false → is_given parts (codes "formula") ≡ false
   pub inputs : list_any (bytes_eq (codes "inputs")) own ≡ false → is_given parts (codes "inputs") ≡ false
+  pub emit : list_any (bytes_eq (codes "emit-c")) own ≡ false → is_given parts (codes "emit-c") ≡ false
 
 pub others : (parts : List PartView) (own : List (List ℕ)) → HasOnly parts own all_task_options → Others parts own
 others parts own h = record {
@@ -43,6 +44,7 @@ others parts own h = record {
   unbounded = off parts own (codes "unbounded") h.1.1.1.1.1.1.1.0;
   formula = off parts own (codes "formula") h.1.1.1.1.1.1.1.1.0;
   inputs = off parts own (codes "inputs") h.1.1.1.1.1.1.1.1.1.1.1.1.0;
+  emit = off parts own (codes "emit-c") h.1.1.1.1.1.1.1.1.1.1.1.1.1.1.0;
 }
 
 pub none_as : {A : Type 0} (Is : List ℕ → A → Type 0) (text : Option (List ℕ)) (value : Option A) → IsGivenAs Is text value → text ≡ None → value ≡ None
@@ -66,56 +68,64 @@ no_property parts v h e = none_as _ (value_of (codes "property") parts) v.proper
 
 -- a property is given, and no form and no ellipsoid is named
 flag_read : (parts : List PartView) (v : Values) (own : List (List ℕ)) (p : Property) (t : Task) → AreValues parts v → v.property ≡ Some p → Others parts own
-    → list_any (bytes_eq (codes "simulate")) own ≡ false → list_any (bytes_eq (codes "form")) own ≡ false → list_any (bytes_eq (codes "ellipsoid")) own ≡ false
+    → list_any (bytes_eq (codes "emit-c")) own ≡ false → list_any (bytes_eq (codes "simulate")) own ≡ false → list_any (bytes_eq (codes "form")) own ≡ false → list_any (bytes_eq (codes "ellipsoid")) own ≡ false
     → flag_task parts v.numbers p ≡ Ok t → task_in parts v ≡ Ok t
-flag_read parts v own p t h e o s f l k = rw (e, no_inputs parts v h (o.simulate s), no_value parts (codes "form") (o.form f), no_value parts (codes "ellipsoid") (o.ellipsoid l)) k
+flag_read parts v own p t h e o c s f l k = rw (o.emit c, e, no_inputs parts v h (o.simulate s), no_value parts (codes "form") (o.form f), no_value parts (codes "ellipsoid") (o.ellipsoid l)) k
 
 -- and nothing is to be found
 run_read : (parts : List PartView) (v : Values) (own : List (List ℕ)) (p : Property) (t : Task) → AreValues parts v → v.property ≡ Some p → Others parts own
-    → list_any (bytes_eq (codes "simulate")) own ≡ false → list_any (bytes_eq (codes "form")) own ≡ false → list_any (bytes_eq (codes "ellipsoid")) own ≡ false
+    → list_any (bytes_eq (codes "emit-c")) own ≡ false → list_any (bytes_eq (codes "simulate")) own ≡ false → list_any (bytes_eq (codes "form")) own ≡ false → list_any (bytes_eq (codes "ellipsoid")) own ≡ false
     → list_any (bytes_eq (codes "lyapunov")) own ≡ false → list_any (bytes_eq (codes "offer-ellipsoid")) own ≡ false
     → run_task parts v.numbers p ≡ Ok t → task_in parts v ≡ Ok t
-run_read parts v own p t h e o s f l y z k = flag_read parts v own p t h e o s f l (rw (o.lyapunov y, o.offer z) k)
+run_read parts v own p t h e o c s f l y z k = flag_read parts v own p t h e o c s f l (rw (o.lyapunov y, o.offer z) k)
 
 pub task_read : (parts : List PartView) (v : Values) (t : Task) → AreValues parts v → IsTask parts v t → HasOnly parts (task_options t) all_task_options → task_in parts v ≡ Ok t
 task_read parts v t h (IsTask.roots ps w p e) only =
     let o = others ps (task_options t) only in
-    run_read ps w (task_options t) (OfRoots p) (decides p (is_given ps (codes "schur-cohn"))) h e o refl refl refl refl refl (rw (o.gain refl, o.unbounded refl, o.formula refl) refl)
+    run_read ps w (task_options t) (OfRoots p) (decides p (is_given ps (codes "schur-cohn"))) h e o refl refl refl refl refl refl (rw (o.gain refl, o.unbounded refl, o.formula refl) refl)
 task_read parts v t h (IsTask.timing ps w e) only =
     let o = others ps (task_options t) only in
-    run_read ps w (task_options t) Timing checks_time h e o refl refl refl refl refl (rw (o.gain refl, o.unbounded refl, o.formula refl) refl)
+    run_read ps w (task_options t) Timing checks_time h e o refl refl refl refl refl refl (rw (o.gain refl, o.unbounded refl, o.formula refl) refl)
 task_read parts v t h (IsTask.formula ps w p e f) only =
     let o = others ps (task_options t) only in
-    run_read ps w (task_options t) (OfRuns p) (writes p w.numbers.samples) h e o refl refl refl refl refl (rw (o.gain refl, o.unbounded refl, f) refl)
+    run_read ps w (task_options t) (OfRuns p) (writes p w.numbers.samples) h e o refl refl refl refl refl refl (rw (o.gain refl, o.unbounded refl, f) refl)
 task_read parts v t h (IsTask.search ps w p e) only =
     let o = others ps (task_options t) only in
-    run_read ps w (task_options t) (OfRuns p) (searches p w.numbers.samples w.numbers.conflicts) h e o refl refl refl refl refl (rw (o.gain refl, o.unbounded refl, o.formula refl) refl)
+    run_read ps w (task_options t) (OfRuns p) (searches p w.numbers.samples w.numbers.conflicts) h e o refl refl refl refl refl refl (rw (o.gain refl, o.unbounded refl, o.formula refl) refl)
 task_read parts v t h (IsTask.unbounded ps w e u) only =
     let o = others ps (task_options t) only in
-    run_read ps w (task_options t) (OfRuns Overflow) (seeks_set w.numbers.conflicts) h e o refl refl refl refl refl (rw (o.gain refl, u) refl)
+    run_read ps w (task_options t) (OfRuns Overflow) (seeks_set w.numbers.conflicts) h e o refl refl refl refl refl refl (rw (o.gain refl, u) refl)
 task_read parts v t h (IsTask.gain ps w e g) only =
     let o = others ps (task_options t) only in
-    run_read ps w (task_options t) (OfRuns Overflow) measures_gain h e o refl refl refl refl refl (rw g refl)
+    run_read ps w (task_options t) (OfRuns Overflow) measures_gain h e o refl refl refl refl refl refl (rw g refl)
 task_read parts v t h (IsTask.simulation ps w inputs e) only =
-    rw (no_property ps w h (off ps (task_options t) (codes "property") only.0 refl), e) refl
+    let o = others ps (task_options t) only in
+    rw (o.emit refl, no_property ps w h (off ps (task_options t) (codes "property") only.0 refl), e) refl
 task_read parts v t h (IsTask.file_run ps w name e) only =
     let o = others ps (task_options t) only in
-    rw (no_property ps w h (off ps (task_options t) (codes "property") only.0 refl), no_inputs ps w h (o.simulate refl), e) refl
+    rw (o.emit refl, no_property ps w h (off ps (task_options t) (codes "property") only.0 refl), no_inputs ps w h (o.simulate refl), e) refl
 task_read parts v t h (IsTask.words_alone ps w e) only =
     let o = others ps (task_options t) only in
-    rw (no_property ps w h (off ps (task_options t) (codes "property") only.0 refl), no_inputs ps w h (o.simulate refl), no_value ps (codes "inputs") (o.inputs refl), e) refl
+    rw (o.emit refl, no_property ps w h (off ps (task_options t) (codes "property") only.0 refl), no_inputs ps w h (o.simulate refl), no_value ps (codes "inputs") (o.inputs refl), e) refl
 task_read parts v t h (IsTask.named_form ps w name e f) only =
     let o = others ps (task_options t) only in
-    rw (e, no_inputs ps w h (o.simulate refl), f) refl
+    rw (o.emit refl, e, no_inputs ps w h (o.simulate refl), f) refl
 task_read parts v t h (IsTask.sought_form ps w e l) only =
     let o = others ps (task_options t) only in
-    flag_read ps w (task_options t) (OfRoots Stability) seeks_form h e o refl refl refl (rw l refl)
+    flag_read ps w (task_options t) (OfRoots Stability) seeks_form h e o refl refl refl refl (rw l refl)
 task_read parts v t h (IsTask.named_ellipsoid ps w name e u l) only =
     let o = others ps (task_options t) only in
-    rw (e, no_inputs ps w h (o.simulate refl), no_value ps (codes "form") (o.form refl), l) refl
+    rw (o.emit refl, e, no_inputs ps w h (o.simulate refl), no_value ps (codes "form") (o.form refl), l) refl
 task_read parts v t h (IsTask.sought_ellipsoid ps w e f r) only =
     let o = others ps (task_options t) only in
-    flag_read ps w (task_options t) (OfRuns Overflow) seeks_ellipsoid h e o refl refl refl (rw (o.lyapunov refl, f) refl)
+    flag_read ps w (task_options t) (OfRuns Overflow) seeks_ellipsoid h e o refl refl refl refl (rw (o.lyapunov refl, f) refl)
+task_read parts v t h (IsTask.code ps w e) only =
+    let o = others ps (task_options t) only in
+    rw (e, no_inputs ps w h (o.simulate refl), no_value ps (codes "inputs") (o.inputs refl)) refl
+task_read parts v t h (IsTask.code_test ps w inputs e f) only = rw (e, f) refl
+task_read parts v t h (IsTask.code_file_test ps w name e f) only =
+    let o = others ps (task_options t) only in
+    rw (e, no_inputs ps w h (o.simulate refl), f) refl
 
 -- ---- from the task to the rules
 
@@ -217,5 +227,16 @@ given_by parts v t kind (Some p) None e f w h = form_by parts v p t kind (value_
 given_by parts v t kind None (Some xs) e f w h = let same : simulates xs (is_given parts (codes "outputs")) ≡ t = cc in subst (IsTask parts v) same (IsTask.simulation parts v xs f)
 given_by parts v t kind None None e f w h = words_by parts v t (value_of (codes "inputs") parts) refl h
 
+code_by : (parts : List PartView) (v : Values) (t : Task) (inputs : Option (List ℤ)) (named : Option (List ℕ)) → is_given parts (codes "emit-c") ≡ true → v.inputs ≡ inputs → value_of (codes "inputs") parts ≡ named
+    → ◌≡◌ {A = Result Task Reason} (Ok (code_task (code_prefix v) inputs named)) (Ok t) → IsTask parts v t
+code_by parts v t (Some xs) named e f g h = let same : emits_test (code_prefix v) xs ≡ t = cc in subst (IsTask parts v) same (IsTask.code_test parts v xs e f)
+code_by parts v t None (Some name) e f g h = let same : emits_file_test (code_prefix v) name ≡ t = cc in subst (IsTask parts v) same (IsTask.code_file_test parts v name e g)
+code_by parts v t None None e f g h = let same : emits_code (code_prefix v) ≡ t = cc in subst (IsTask parts v) same (IsTask.code parts v e)
+
+found_with : (parts : List PartView) (v : Values) (t : Task) (kind : Kind) → IsWhole parts v kind t → (emit : Bool) → is_given parts (codes "emit-c") ≡ emit
+    → (if emit then Ok (code_task (code_prefix v) v.inputs (value_of (codes "inputs") parts)) else task_by parts v.numbers v.property v.inputs) ≡ Ok t → IsTask parts v t
+found_with parts v t kind w true e h = code_by parts v t v.inputs (value_of (codes "inputs") parts) e refl refl h
+found_with parts v t kind w false e h = given_by parts v t kind v.property v.inputs refl refl w h
+
 pub task_found : (parts : List PartView) (v : Values) (t : Task) (kind : Kind) → IsWhole parts v kind t → task_in parts v ≡ Ok t → IsTask parts v t
-task_found parts v t kind w h = given_by parts v t kind v.property v.inputs refl refl w h
+task_found parts v t kind w h = found_with parts v t kind w (is_given parts (codes "emit-c")) refl h

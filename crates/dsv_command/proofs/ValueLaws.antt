@@ -16,13 +16,14 @@ use Rattle.dsv_names.specs.Properties.{property_name, properties}
 use Rattle.dsv_names.specs.Realisations.{realisation_name, realisations}
 use Rattle.dsv_names.specs.Roundings.{rounding_name, roundings}
 use Rattle.dsv_names.proofs.NameLaws.{are_names-realisations, are_names-roundings, are_names-overflow_modes, are_names-properties}
+use Rattle.dsv_command.specs.CodeNames.{code_name_of, is_code_name}
 use Rattle.dsv_command.specs.SectionNames.{names_of}
 use Rattle.dsv_command.specs.Inputs.{inputs_of}
 use Rattle.dsv_command.specs.Limits.{most_number_digits, most_samples, default_samples, most_conflicts, default_conflicts, most_controllers}
 use Rattle.dsv_command.specs.Parts.{PartView, value_of}
 use Rattle.dsv_command.specs.Reasons.{Reason}
 use Rattle.dsv_command.specs.Rules as rules
-use Rattle.dsv_command.specs.Rules.{AreInputs, IsNumberUpTo, IsNumber, IsChosen, IsDesign, IsSeed, IsGivenAs, IsPropertyName, AreValues}
+use Rattle.dsv_command.specs.Rules.{AreInputs, IsNumberUpTo, IsNumber, IsChosen, IsDesign, IsSeed, IsGivenAs, IsPropertyName, IsCodeName, AreValues}
 use Rattle.dsv_command.specs.Values.{Numbers, Values, number_up_to, seed_of, found_value, read_value, value_in, samples_in, conflicts_in, numbers_in, design_in, values_in}
 use Rattle.dsv_command.proofs.InputLaws.{inputs_read, inputs_found}
 use Rattle.dsv_command.proofs.SectionNameLaws.{names_read, names_found}
@@ -36,6 +37,9 @@ pub record Passed {A B : Type 0} (r : Result A Reason) (f : A → Result B Reaso
 pub passed : {A B : Type 0} (r : Result A Reason) (f : A → Result B Reason) (y : B) → (r >>= f) ≡ Ok y → Passed r f y
 passed (Ok x) f y e = record { value = x; first = refl; second = e }
 passed (Err reason) f y e = absurd (cc)
+
+same_value : {A : Type 0} (x y : A) → ◌≡◌ {A = Result A Reason} (Ok x) (Ok y) → x ≡ y
+same_value x y e = cc
 
 -- ---- one value
 value_read : {A : Type 0} (name : List ℕ) (read : List ℕ → Option A) (Is : List ℕ → A → Type 0) (text : Option (List ℕ)) (value : Option A)
@@ -101,6 +105,16 @@ seed_found_by t seed (Some n) e h = seed_by t n seed (nat_lt n (2 ^ 32)) refl e 
 seed_found : (t : List ℕ) (seed : ℕ) → seed_of t ≡ Some seed → IsSeed t seed
 seed_found t seed h = seed_found_by t seed (short_number most_number_digits t) refl h
 
+code_read : (t n : List ℕ) → IsCodeName t n → code_name_of t ≡ Some n
+code_read t n h = rw h.1 (ap Some (sym h.0))
+
+code_by : (t n : List ℕ) (b : Bool) → is_code_name t ≡ b → (if b then Some t else None) ≡ Some n → IsCodeName t n
+code_by t n true e h = let same : t ≡ n = cc in (sym same, e)
+code_by t n false e h = absurd (cc)
+
+code_found : (t n : List ℕ) → code_name_of t ≡ Some n → IsCodeName t n
+code_found t n h = code_by t n (is_code_name t) refl h
+
 -- ---- values with defaults
 
 -- a value that is read so, or else the default
@@ -161,7 +175,8 @@ values_read parts v h =
     let l = value_read (codes "sections") names_of rules.AreNames (value_of (codes "sections") parts) v.later names_read h.later in
     let s = value_read (codes "generate") seed_of IsSeed (value_of (codes "generate") parts) v.seed seed_read h.seed in
     let c = value_read (codes "count") (number_up_to most_controllers) (IsNumberUpTo most_controllers) (value_of (codes "count") parts) v.controllers (number_read most_controllers) h.controllers in
-    rw (p, i, l, s, c, numbers_read parts v h, design_read parts v.design h.design) refl
+    let m = value_read (codes "c-name") code_name_of IsCodeName (value_of (codes "c-name") parts) v.code_name code_read h.code_name in
+    rw (p, i, l, s, c, m, numbers_read parts v h, design_read parts v.design h.design) refl
 
 samples_found : (parts : List PartView) (n : ℕ) → samples_in parts ≡ Ok n → IsNumber most_samples default_samples (value_of (codes "x-size") parts) n
 samples_found parts n h =
@@ -205,7 +220,8 @@ values_found parts v h =
     let d = passed (design_in parts) _ v l.second in
     let s = passed (value_in (codes "generate") seed_of parts) _ v d.second in
     let c = passed (value_in (codes "count") (number_up_to most_controllers) parts) _ v s.second in
-    let same : record { property = p.value; inputs = i.value; numbers = n.value; later = l.value; design = d.value; seed = s.value; controllers = c.value } ≡ v = let e = c.second in cc in
+    let m = passed (value_in (codes "c-name") code_name_of parts) _ v c.second in
+    let same : record { property = p.value; inputs = i.value; numbers = n.value; later = l.value; design = d.value; seed = s.value; controllers = c.value; code_name = m.value } ≡ v = same_value _ v m.second in
     let numbers = numbers_found parts n.value n.first in
     subst (AreValues parts) same (record {
       property = value_found (codes "property") (value_named property_name properties) IsPropertyName (value_of (codes "property") parts) p.value (λ t a e. are_names-properties.only t a e) p.first;
@@ -216,4 +232,5 @@ values_found parts v h =
       design = design_found parts d.value d.first;
       seed = value_found (codes "generate") seed_of IsSeed (value_of (codes "generate") parts) s.value seed_found s.first;
       controllers = value_found (codes "count") (number_up_to most_controllers) (IsNumberUpTo most_controllers) (value_of (codes "count") parts) c.value (number_found most_controllers) c.first;
+      code_name = value_found (codes "c-name") code_name_of IsCodeName (value_of (codes "c-name") parts) m.value code_found m.first;
     })

@@ -23,7 +23,9 @@ use Rattle.dsv_command.specs.declared.kind.Kind.TheVariants as of_kind
 use Rattle.dsv_command.specs.Table.{JobFiles, controller, cascade, states, plant_loop}
 use Rattle.dsv_command.specs.Table.{cascade_loop, Task, decides, checks_time, writes, searches}
 use Rattle.dsv_command.specs.Table.{seeks_set, measures_gain, simulates, checks_form, seeks_form}
+use Rattle.dsv_command.specs.CodeNames.{default_code_name}
 use Rattle.dsv_command.specs.Table.{runs_file, tells_words, may_word}
+use Rattle.dsv_command.specs.Table.{emits_code, emits_test, emits_file_test}
 use Rattle.dsv_command.specs.Table.{checks_ellipsoid, seeks_ellipsoid, Job, Request, does, checks}
 use Rattle.dsv_command.specs.Table.{generates, has_cell, may_certify, task_options}
 use Rattle.dsv_command.specs.Table.{all_task_options, all_design_options}
@@ -124,8 +126,26 @@ task_by parts numbers None (Some inputs) =
     Ok (simulates inputs (is_given parts (codes "outputs")))
 task_by parts numbers None None = words_task parts (value_of (codes "inputs") parts)
 
+-- C with a test over inputs that are given, or over those in a file that is named, or with none
+abbrev pub code_task : List ℕ → Option (List ℤ) → Option (List ℕ) → Task
+code_task prefix (Some inputs) named = emits_test prefix inputs
+code_task prefix None (Some name) = emits_file_test prefix name
+code_task prefix None None = emits_code prefix
+
+-- what names in C begin with
+abbrev pub code_prefix : Values → List ℕ
+code_prefix values = unwrap_or values.code_name default_code_name
+
+-- C, if that is asked for, with names that begin so, or else the task that is given
+abbrev pub task_with : List PartView → Numbers → Option Property → Option (List ℤ) → List ℕ
+    → Result Task Reason
+task_with parts numbers property inputs prefix = if is_given parts (codes "emit-c")
+    then Ok (code_task prefix inputs (value_of (codes "inputs") parts))
+    else task_by parts numbers property inputs
+
 abbrev pub task_in : List PartView → Values → Result Task Reason
-task_in parts values = task_by parts values.numbers values.property values.inputs
+task_in parts values =
+    task_with parts values.numbers values.property values.inputs (code_prefix values)
 
 -- the part that asks for a task
 abbrev pub task_part : Task → PartView
@@ -138,6 +158,9 @@ task_part measures_gain = flag (codes "gain")
 task_part (simulates inputs outputs) = flag (codes "simulate")
 task_part (runs_file name outputs) = flag (codes "inputs")
 task_part tells_words = flag (codes "words")
+task_part (emits_code prefix) = flag (codes "emit-c")
+task_part (emits_test prefix inputs) = flag (codes "emit-c")
+task_part (emits_file_test prefix name) = flag (codes "emit-c")
 task_part (checks_form name) = flag (codes "form")
 task_part seeks_form = flag (codes "lyapunov")
 task_part (checks_ellipsoid name) = flag (codes "ellipsoid")
@@ -249,10 +272,14 @@ files_in parts values = files_by (value_of (codes "state-space") parts)
 
 -- ---- the request
 
-abbrev pub check_job : List PartView → Task → Realisation → Result (Unit {0}) Reason
-check_job parts task realisation =
+-- nothing, unless an option of other tasks is given
+unfoldable pub check_own : List PartView → Task → Result (Unit {0}) Reason
+check_own parts task =
     unless_given (task_part task) (first_other parts (task_options task) all_task_options)
-    >>= λ u.
+
+-- nothing, unless what is given doesn't go together
+unfoldable pub check_rest : List PartView → Task → Realisation → Result (Unit {0}) Reason
+check_rest parts task realisation =
     check_states parts (kind_in parts) >>= λ u.
     check_cell (kind_in parts) task >>= λ u.
     check_certificate (is_given parts (codes "certificate")) (kind_in parts) task >>= λ u.
@@ -260,6 +287,10 @@ check_job parts task realisation =
     >>= λ u.
     check_realisation task realisation >>= λ u.
     check_whole parts (kind_in parts) task
+
+abbrev pub check_job : List PartView → Task → Realisation → Result (Unit {0}) Reason
+check_job parts task realisation =
+    check_own parts task >>= λ u. check_rest parts task realisation
 
 abbrev pub job_in : List PartView → Values → Result Job Reason
 job_in parts values =

@@ -10,6 +10,7 @@ pub mod Reasons
 pub mod Requests
 pub mod Rules
 pub mod SectionNames
+pub mod CodeNames
 pub mod Shapes
 pub mod Table
 pub mod Values

@@ -28,4 +28,6 @@ command_options =
     (codes "count", true) ∷
     (codes "words", false) ∷
     (codes "inputs", true) ∷
-    (codes "outputs", false) ∷ []
+    (codes "outputs", false) ∷
+    (codes "emit-c", false) ∷
+    (codes "c-name", true) ∷ []

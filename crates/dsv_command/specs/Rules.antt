@@ -34,7 +34,9 @@ use Rattle.dsv_command.specs.Shapes.{dash, is_equals}
 use Rattle.dsv_command.specs.Table.{JobFiles, controller, cascade, states, plant_loop}
 use Rattle.dsv_command.specs.Table.{cascade_loop, Task, decides, checks_time, writes, searches}
 use Rattle.dsv_command.specs.Table.{seeks_set, measures_gain, simulates, checks_form, seeks_form}
+use Rattle.dsv_command.specs.CodeNames.{default_code_name, is_code_name}
 use Rattle.dsv_command.specs.Table.{runs_file, tells_words, may_word}
+use Rattle.dsv_command.specs.Table.{emits_code, emits_test, emits_file_test}
 use Rattle.dsv_command.specs.Table.{checks_ellipsoid, seeks_ellipsoid, Job, Request, does, checks}
 use Rattle.dsv_command.specs.Table.{generates, kind_of, has_cell, may_certify, is_checked}
 use Rattle.dsv_command.specs.Table.{task_options, all_task_options, file_options}
@@ -180,6 +182,10 @@ IsGivenAs Is _ _ = ⊥
 abbrev pub IsPropertyName : List ℕ → Property → Type 0
 IsPropertyName text property = text ≡ property_name property
 
+-- names in C may begin with this text
+abbrev pub IsCodeName : List ℕ → List ℕ → Type 0
+IsCodeName text name = (name ≡ text) × (is_code_name text ≡ true)
+
 -- The values in parts: each that is given is one of its option's, whether or not a task has the
 -- option. There are 1 to 64 samples or 10, 1 to 200000 conflicts or 50000, 1 to 1000 controllers.
 pub record AreValues (parts : List PartView) (values : Values) : Type 0 where
@@ -194,6 +200,7 @@ pub record AreValues (parts : List PartView) (values : Values) : Type 0 where
   pub seed : IsGivenAs IsSeed (value_of (codes "generate") parts) values.seed
   pub controllers : IsGivenAs (IsNumberUpTo most_controllers) (value_of (codes "count") parts)
       values.controllers
+  pub code_name : IsGivenAs IsCodeName (value_of (codes "c-name") parts) values.code_name
 
 -- ---- what is asked
 
@@ -247,6 +254,14 @@ pub data IsTask : List PartView → Values → Task → Type 0 where
       → IsTask parts values (runs_file name (is_given parts (codes "outputs")))
   words_alone : (parts : List PartView) (values : Values) → is_given parts (codes "words") ≡ true
       → IsTask parts values tells_words
+  code : (parts : List PartView) (values : Values) → is_given parts (codes "emit-c") ≡ true
+      → IsTask parts values (emits_code (unwrap_or values.code_name default_code_name))
+  code_test : (parts : List PartView) (values : Values) (inputs : List ℤ)
+      → is_given parts (codes "emit-c") ≡ true → values.inputs ≡ Some inputs
+      → IsTask parts values (emits_test (unwrap_or values.code_name default_code_name) inputs)
+  code_file_test : (parts : List PartView) (values : Values) (name : List ℕ)
+      → is_given parts (codes "emit-c") ≡ true → value_of (codes "inputs") parts ≡ Some name
+      → IsTask parts values (emits_file_test (unwrap_or values.code_name default_code_name) name)
   named_form : (parts : List PartView) (values : Values) (name : List ℕ)
       → values.property ≡ Some (OfRoots Stability) → value_of (codes "form") parts ≡ Some name
       → IsTask parts values (checks_form name)

@@ -43,6 +43,12 @@ pub data Task : Type 0 where
   runs_file : List ℕ → Bool → Task
   -- its words are told, and no more is asked
   tells_words : Task
+  -- its C is written, with names that begin so
+  emits_code : List ℕ → Task
+  -- so it is with a test that runs it over these inputs
+  emits_test : List ℕ → List ℤ → Task
+  -- so it is with a test over the inputs in the file that is named last
+  emits_file_test : List ℕ → List ℕ → Task
   -- it is decided whether its states fall by the form of the certificate in the file of this name
   checks_form : List ℕ → Task
   -- so it is by a form that is sought
@@ -91,6 +97,9 @@ has_cell of_kind.Cascade measures_gain = true
 has_cell of_kind.Cascade (simulates inputs outputs) = true
 has_cell of_kind.Cascade (runs_file name outputs) = true
 has_cell of_kind.Cascade tells_words = true
+has_cell of_kind.Cascade (emits_code prefix) = true
+has_cell of_kind.Cascade (emits_test prefix inputs) = true
+has_cell of_kind.Cascade (emits_file_test prefix name) = true
 has_cell of_kind.Cascade _ = false
 has_cell of_kind.States (decides Stability true) = true
 has_cell of_kind.States (checks_form name) = true
@@ -100,6 +109,9 @@ has_cell of_kind.States measures_gain = true
 has_cell of_kind.States (simulates inputs outputs) = true
 has_cell of_kind.States (runs_file name outputs) = true
 has_cell of_kind.States tells_words = true
+has_cell of_kind.States (emits_code prefix) = true
+has_cell of_kind.States (emits_test prefix inputs) = true
+has_cell of_kind.States (emits_file_test prefix name) = true
 has_cell of_kind.States _ = false
 has_cell of_kind.Loop (decides Stability schur_cohn) = true
 has_cell of_kind.Loop tells_words = true
@@ -126,6 +138,9 @@ may_word false (writes property samples) = false
 may_word false (simulates inputs true) = false
 may_word false (runs_file name true) = false
 may_word false seeks_ellipsoid = false
+may_word false (emits_code prefix) = false
+may_word false (emits_test prefix inputs) = false
+may_word false (emits_file_test prefix name) = false
 may_word false task = true
 
 -- whose certificates are checked
@@ -147,6 +162,11 @@ task_options measures_gain = codes "property" ∷ codes "gain" ∷ []
 task_options (simulates inputs outputs) = codes "simulate" ∷ codes "outputs" ∷ []
 task_options (runs_file name outputs) = codes "inputs" ∷ codes "outputs" ∷ []
 task_options tells_words = []
+task_options (emits_code prefix) = codes "emit-c" ∷ codes "c-name" ∷ []
+task_options (emits_test prefix inputs) =
+    codes "emit-c" ∷ codes "c-name" ∷ codes "simulate" ∷ []
+task_options (emits_file_test prefix name) =
+    codes "emit-c" ∷ codes "c-name" ∷ codes "inputs" ∷ []
 task_options (checks_form name) = codes "property" ∷ codes "form" ∷ []
 task_options seeks_form = codes "property" ∷ codes "lyapunov" ∷ []
 task_options (checks_ellipsoid name) =
@@ -158,7 +178,7 @@ abbrev pub all_task_options : List (List ℕ)
 all_task_options = codes "property" ∷ codes "simulate" ∷ codes "form" ∷ codes "lyapunov"
     ∷ codes "ellipsoid" ∷ codes "offer-ellipsoid" ∷ codes "gain" ∷ codes "unbounded"
     ∷ codes "formula" ∷ codes "x-size" ∷ codes "conflicts" ∷ codes "schur-cohn"
-    ∷ codes "inputs" ∷ codes "outputs" ∷ []
+    ∷ codes "inputs" ∷ codes "outputs" ∷ codes "emit-c" ∷ codes "c-name" ∷ []
 
 -- the options that name files beside FILE: those of what is asked about, and all
 abbrev pub file_options : JobFiles → List (List ℕ)

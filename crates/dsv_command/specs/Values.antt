@@ -14,6 +14,7 @@ use Rattle.dsv_names.specs.Properties.{property_name, properties}
 use Rattle.dsv_names.specs.Realisations.{realisation_name, realisations}
 use Rattle.dsv_names.specs.Roundings.{rounding_name, roundings}
 use Rattle.dsv_command.specs.SectionNames.{names_of}
+use Rattle.dsv_command.specs.CodeNames.{code_name_of}
 use Rattle.dsv_command.specs.Inputs.{inputs_of}
 use Rattle.dsv_command.specs.Limits.{most_number_digits, most_samples, most_conflicts}
 use Rattle.dsv_command.specs.Limits.{most_controllers, default_samples, default_conflicts}
@@ -36,6 +37,8 @@ pub record Values : Type 0 where
   pub seed : Option ℕ
   -- how many controllers are generated
   pub controllers : Option ℕ
+  -- what names in C begin with
+  pub code_name : Option (List ℕ)
 
 -- a number of 1 to 10 digits from 1 to a limit
 abbrev pub number_up_to : ℕ → List ℕ → Option ℕ
@@ -99,6 +102,7 @@ values_in parts =
     design_in parts >>= λ design.
     value_in (codes "generate") seed_of parts >>= λ seed.
     value_in (codes "count") (number_up_to most_controllers) parts >>= λ controllers.
+    value_in (codes "c-name") code_name_of parts >>= λ code_name.
     Ok (record {
       property = property;
       inputs = inputs;
@@ -107,4 +111,5 @@ values_in parts =
       design = design;
       seed = seed;
       controllers = controllers;
+      code_name = code_name;
     })

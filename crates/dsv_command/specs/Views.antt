@@ -111,6 +111,9 @@ task_view of_task.MeasureGain = table.measures_gain
 task_view (of_task.Simulate inputs outputs) = table.simulates inputs.items outputs
 task_view (of_task.RunFile name outputs) = table.runs_file name.now outputs
 task_view of_task.TellWords = table.tells_words
+task_view (of_task.EmitCode prefix) = table.emits_code prefix.now
+task_view (of_task.EmitTest prefix inputs) = table.emits_test prefix.now inputs.items
+task_view (of_task.EmitFileTest prefix name) = table.emits_file_test prefix.now name.now
 task_view (of_task.CheckForm name) = table.checks_form name.now
 task_view of_task.SeekForm = table.seeks_form
 task_view (of_task.CheckEllipsoid name) = table.checks_ellipsoid name.now
@@ -155,4 +158,5 @@ values_view given = record {
   design = given.design;
   seed = given.seed;
   controllers = option_map (λ controllers. controllers.count) given.controllers;
+  code_name = text_view given.code_name;
 }

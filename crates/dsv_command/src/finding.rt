@@ -14,13 +14,16 @@ ghost use Rattle.dsv_command.specs.Finding.{first_other, flag_task, form_task, f
 ghost use Rattle.dsv_command.specs.Finding.{generation_in, is_incomplete, is_overflow};
 ghost use Rattle.dsv_command.specs.Finding.{is_stability, job_in, kind_in, kind_part};
 ghost use Rattle.dsv_command.specs.Finding.{plain_task, property_part, request_in, run_task};
+ghost use Rattle.dsv_command.specs.CodeNames.{default_code_name};
+ghost use Rattle.dsv_command.specs.Finding.{check_own, check_rest, code_task, task_with};
 ghost use Rattle.dsv_command.specs.Finding.{task_by, task_if, task_part, unless_file};
 ghost use Rattle.dsv_command.specs.Finding.{unless_given};
 ghost use Rattle.dsv_command.specs.Views.{files_view, job_view, names_view, part_view};
 ghost use Rattle.dsv_command.specs.Views.{numbers_view, reason_view, request_view, task_view};
-ghost use Rattle.dsv_command.specs.Views.{values_view};
+ghost use Rattle.dsv_command.specs.Views.{text_view, values_view};
 
 use crate::arguments::Arguments;
+use crate::code_names::DEFAULT_CODE_NAME;
 use crate::generation::Generation;
 use crate::inputs::Inputs;
 use crate::kind::Kind;
@@ -37,7 +40,7 @@ use crate::values::{Numbers, Values, find_values};
 use dsv_names::{Named, Property, Realisation, RootProperty, RunProperty};
 
 /// Whether a name is one of these.
-fn is_among(name: &str, names: &[&str]) -> bool
+pub(crate) fn is_among(name: &str, names: &[&str]) -> bool
     ensures { result ≡ list_any (bytes_eq name.now) (names_view names.now) }
 {
     for other in names {
@@ -248,6 +251,23 @@ fn words_task<'a>(arguments: &Arguments<'a>) -> Result<Task<'a>, Reason<'a>>
     }
 }
 
+/// The task of C, with the test that is given.
+fn code_task<'a>(
+    arguments: &Arguments<'a>,
+    code_name: Option<&'a str>,
+    inputs: Option<Inputs>,
+) -> Task<'a>
+    ensures { task_view result ≡ code_task (unwrap_or (text_view code_name.entry) default_code_name)
+        (option_map (λ i. i.items) inputs) (value_of (codes "inputs") arguments.now) }
+{
+    let prefix = code_name.unwrap_or(DEFAULT_CODE_NAME);
+    match (inputs, arguments.value("inputs")) {
+        (Some(inputs), _) => Task::EmitTest(prefix, inputs),
+        (None, Some(name)) => Task::EmitFileTest(prefix, name),
+        (None, None) => Task::EmitCode(prefix),
+    }
+}
+
 /// The task that is given: a property's, a run over inputs, or that the words are told.
 fn find_task<'a>(
     arguments: &Arguments<'a>,
@@ -267,6 +287,26 @@ fn find_task<'a>(
     }
 }
 
+/// The task of C if that is asked for, or else the one that is given.
+fn find_code_or_task<'a>(
+    arguments: &Arguments<'a>,
+    numbers: &Numbers,
+    property: Option<Property>,
+    inputs: Option<Inputs>,
+    code_name: Option<&'a str>,
+) -> Result<Task<'a>, Reason<'a>>
+    ensures { result_map_both task_view reason_view result
+        ≡ task_with arguments.now (numbers_view numbers.now) property
+        (option_map (λ i. i.items) inputs)
+        (unwrap_or (text_view code_name.entry) default_code_name) }
+{
+    if arguments.is_given("emit-c") {
+        Ok(code_task(arguments, code_name, inputs))
+    } else {
+        find_task(arguments, numbers, property, inputs)
+    }
+}
+
 /// The part that asks for a task.
 fn task_part<'a>(task: &Task) -> Part<'a>
     ensures { part_view result ≡ task_part (task_view task.now) }
@@ -281,6 +321,9 @@ fn task_part<'a>(task: &Task) -> Part<'a>
         Task::Simulate(_, _) => Part::Flag("simulate"),
         Task::RunFile(_, _) => Part::Flag("inputs"),
         Task::TellWords => Part::Flag("words"),
+        Task::EmitCode(_) | Task::EmitTest(_, _) | Task::EmitFileTest(_, _) => {
+            Part::Flag("emit-c")
+        }
         Task::CheckForm(_) => Part::Flag("form"),
         Task::SeekForm => Part::Flag("lyapunov"),
         Task::CheckEllipsoid(_) => Part::Flag("ellipsoid"),
@@ -472,6 +515,36 @@ fn find_files<'a>(
     }
 }
 
+/// Nothing, unless an option of other tasks is given.
+#[tactic(auto, unfolding(crate::specs::Finding::check_own))]
+fn check_own<'a>(arguments: &Arguments<'a>, task: &Task) -> Result<(), Reason<'a>>
+    ensures { result_map_both (λ u. u) reason_view result
+        ≡ check_own arguments.now (task_view task.now) }
+{
+    let other = first_other(arguments, task_options(task), all_task_options());
+    unless_given(task_part(task), other)
+}
+
+/// Nothing, unless what is given doesn't go together.
+#[tactic(auto, unfolding(crate::specs::Finding::check_rest))]
+fn check_rest<'a>(
+    arguments: &Arguments<'a>,
+    task: &Task,
+    realisation: Realisation,
+) -> Result<(), Reason<'a>>
+    ensures { result_map_both (λ u. u) reason_view result
+        ≡ check_rest arguments.now (task_view task.now) realisation }
+{
+    let kind = find_kind(arguments);
+    check_states(arguments, kind)?;
+    check_cell(kind, task)?;
+    let certified = arguments.is_given("certificate");
+    check_certificate(certified, kind, task)?;
+    check_words(arguments.is_given("words"), certified, task)?;
+    check_realisation(task, realisation)?;
+    check_whole(arguments, kind, task)
+}
+
 /// Nothing, unless something is given that doesn't go together, or something is missing.
 fn check_job<'a>(
     arguments: &Arguments<'a>,
@@ -481,16 +554,8 @@ fn check_job<'a>(
     ensures { result_map_both (λ u. u) reason_view result
         ≡ check_job arguments.now (task_view task.now) realisation }
 {
-    let kind = find_kind(arguments);
-    let other = first_other(arguments, task_options(task), all_task_options());
-    unless_given(task_part(task), other)?;
-    check_states(arguments, kind)?;
-    check_cell(kind, task)?;
-    let certified = arguments.is_given("certificate");
-    check_certificate(certified, kind, task)?;
-    check_words(arguments.is_given("words"), certified, task)?;
-    check_realisation(task, realisation)?;
-    check_whole(arguments, kind, task)
+    check_own(arguments, task)?;
+    check_rest(arguments, task, realisation)
 }
 
 /// The job that is given.
@@ -504,9 +569,10 @@ fn find_job<'a>(arguments: &Arguments<'a>, values: Values<'a>) -> Result<Job<'a>
         numbers,
         later,
         design,
+        code_name,
         ..
     } = values;
-    let task = find_task(arguments, &numbers, property, inputs)?;
+    let task = find_code_or_task(arguments, &numbers, property, inputs, code_name)?;
     check_job(arguments, &task, design.realisation)?;
     let files = find_files(arguments, later)?;
     Ok(Job {

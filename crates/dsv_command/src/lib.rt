@@ -2,6 +2,7 @@
 #![tactic(auto)]
 
 mod arguments;
+mod code_names;
 mod faults;
 mod finding;
 mod generation;

@@ -14,7 +14,7 @@ pub struct CommandOption {
 
 /// The options that the command has. One more stands here and in `specs/Options.antt`; what it asks
 /// for, in the job or the request.
-const OPTIONS: [CommandOption; 25] = [
+const OPTIONS: [CommandOption; 27] = [
     CommandOption {
         name: "property",
         takes_value: true,
@@ -114,6 +114,14 @@ const OPTIONS: [CommandOption; 25] = [
     CommandOption {
         name: "outputs",
         takes_value: false,
+    },
+    CommandOption {
+        name: "emit-c",
+        takes_value: false,
+    },
+    CommandOption {
+        name: "c-name",
+        takes_value: true,
     },
 ];
 

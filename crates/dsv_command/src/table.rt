@@ -62,6 +62,12 @@ pub enum Task<'a> {
     RunFile(&'a str, bool),
     /// Its words are told, and no more is asked.
     TellWords,
+    /// Its C is written, with names that begin so.
+    EmitCode(&'a str),
+    /// So it is with a test that runs it over these inputs.
+    EmitTest(&'a str, Inputs),
+    /// So it is with a test over the inputs in the file that is named last.
+    EmitFileTest(&'a str, &'a str),
     /// It is decided whether its states fall, by the form of the certificate in the file of this
     /// name.
     CheckForm(&'a str),
@@ -117,19 +123,17 @@ pub(crate) fn has_cell(kind: Kind, task: &Task) -> bool
                 },
             ),
         ) => true,
-        (
-            Kind::Cascade,
-            Task::Search(
-                RunQuestion {
-                    property: RunProperty::Overflow,
-                    ..
-                },
-                _,
-            ),
-        ) => true,
+        (Kind::Cascade, Task::Search(question, _)) => {
+            matches!(question.property, RunProperty::Overflow)
+        }
         (
             Kind::Cascade | Kind::States,
-            Task::MeasureGain | Task::Simulate(_, _) | Task::RunFile(_, _),
+            Task::MeasureGain
+            | Task::Simulate(_, _)
+            | Task::RunFile(_, _)
+            | Task::EmitCode(_)
+            | Task::EmitTest(_, _)
+            | Task::EmitFileTest(_, _),
         ) => true,
         (_, Task::TellWords) => true,
         (
@@ -164,7 +168,11 @@ pub(crate) fn may_word(certified: bool, task: &Task) -> bool
 {
     match task {
         _ if certified => false,
-        Task::WriteFormula(_) | Task::SeekEllipsoid => false,
+        Task::WriteFormula(_)
+        | Task::SeekEllipsoid
+        | Task::EmitCode(_)
+        | Task::EmitTest(_, _)
+        | Task::EmitFileTest(_, _) => false,
         Task::Simulate(_, outputs) | Task::RunFile(_, outputs) => !*outputs,
         _ => true,
     }
@@ -184,6 +192,9 @@ pub(crate) fn task_options(task: &Task) -> &'static [&'static str]
         Task::Simulate(_, _) => &["simulate", "outputs"],
         Task::RunFile(_, _) => &["inputs", "outputs"],
         Task::TellWords => &[],
+        Task::EmitCode(_) => &["emit-c", "c-name"],
+        Task::EmitTest(_, _) => &["emit-c", "c-name", "simulate"],
+        Task::EmitFileTest(_, _) => &["emit-c", "c-name", "inputs"],
         Task::CheckForm(_) => &["property", "form"],
         Task::SeekForm => &["property", "lyapunov"],
         Task::CheckEllipsoid(_) => &["property", "unbounded", "ellipsoid"],
@@ -210,6 +221,8 @@ pub(crate) fn all_task_options() -> &'static [&'static str]
         "schur-cohn",
         "inputs",
         "outputs",
+        "emit-c",
+        "c-name",
     ]
 }
 
@@ -234,6 +247,8 @@ pub(crate) fn all_job_options() -> &'static [&'static str]
         "schur-cohn",
         "inputs",
         "outputs",
+        "emit-c",
+        "c-name",
         "certificate",
         "realization",
         "rounding",

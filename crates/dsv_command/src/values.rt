@@ -2,14 +2,17 @@
 ghost use Rattle.std.specs.Prelude.{◌≡◌, ◌≤◌, codes, IfOk, IfSome, option_map};
 ghost use Rattle.std.specs.Result.{result_map_both};
 ghost use Rattle.dsv_names.specs.Names.{value_named};
+ghost use Rattle.dsv_command.specs.CodeNames.{code_name_of};
 ghost use Rattle.dsv_command.specs.SectionNames.{names_of};
 ghost use Rattle.dsv_command.specs.Inputs.{inputs_of};
 ghost use Rattle.dsv_command.specs.Limits.{most_controllers};
 ghost use Rattle.dsv_command.specs.Values.{conflicts_in, design_in, number_up_to, numbers_in};
 ghost use Rattle.dsv_command.specs.Values.{samples_in, seed_of, value_in, values_in};
-ghost use Rattle.dsv_command.specs.Views.{names_view, numbers_view, reason_view, values_view};
+ghost use Rattle.dsv_command.specs.Views.{names_view, numbers_view, reason_view, text_view};
+ghost use Rattle.dsv_command.specs.Views.{values_view};
 
 use crate::arguments::Arguments;
+use crate::code_names::code_name_of;
 use crate::inputs::{Inputs, find_inputs};
 use crate::limits::{
     DEFAULT_CONFLICTS, DEFAULT_SAMPLES, MOST_CONFLICTS, MOST_CONTROLLERS, MOST_NUMBER_DIGITS,
@@ -39,6 +42,8 @@ pub(crate) struct Values<'a> {
     pub design: Design,
     pub seed: Option<u32>,
     pub controllers: Option<Controllers>,
+    /// What names in C begin with.
+    pub code_name: Option<&'a str>,
 }
 
 /// The value of an option that names one of few.
@@ -204,6 +209,20 @@ fn find_seed<'a>(arguments: &Arguments<'a>) -> Result<Option<u32>, Reason<'a>>
     }
 }
 
+/// What names in C are to begin with.
+fn find_code_name<'a>(arguments: &Arguments<'a>) -> Result<Option<&'a str>, Reason<'a>>
+    ensures { result_map_both text_view reason_view result
+        ≡ value_in (codes "c-name") code_name_of arguments.now }
+{
+    let Some(text) = arguments.value("c-name") else {
+        return Ok(None);
+    };
+    match code_name_of(text) {
+        Some(name) => Ok(Some(name)),
+        None => Err(Reason::BadValue("c-name", text)),
+    }
+}
+
 /// The values that are given; the first that is none of its option's refuses them.
 pub(crate) fn find_values<'a>(arguments: &Arguments<'a>) -> Result<Values<'a>, Reason<'a>>
     ensures { result_map_both values_view reason_view result ≡ values_in arguments.now }
@@ -215,6 +234,7 @@ pub(crate) fn find_values<'a>(arguments: &Arguments<'a>) -> Result<Values<'a>, R
     let design = find_design(arguments)?;
     let seed = find_seed(arguments)?;
     let controllers = find_controllers(arguments)?;
+    let code_name = find_code_name(arguments)?;
     Ok(Values {
         property,
         inputs,
@@ -223,5 +243,6 @@ pub(crate) fn find_values<'a>(arguments: &Arguments<'a>) -> Result<Values<'a>, R
         design,
         seed,
         controllers,
+        code_name,
     })
 }

@@ -4,7 +4,7 @@ use Rattle.sha2.specs.Sha256.{sha256}
 use Rattle.dsv_base.specs.Lists.{Pairwise}
 use Rattle.dsv_base.specs.Seen.{FilesSeen, CameOf}
 use Rattle.dsv_command.specs.Table.{JobFiles, controller, cascade, states, plant_loop, cascade_loop}
-use Rattle.dsv_command.specs.Table.{Task, checks_form, checks_ellipsoid, runs_file}
+use Rattle.dsv_command.specs.Table.{Task, checks_form, checks_ellipsoid, runs_file, emits_file_test}
 use Rattle.dsv_files.specs.declared.digests.FileDigest.{FileDigest}
 use Rattle.dsv_files.specs.Files.{FileKind, a_controller, a_state_controller, a_plant}
 use Rattle.dsv_files.specs.Files.{a_certificate, an_ellipsoid, some_inputs, Content, IsText}
@@ -38,6 +38,7 @@ abbrev pub named_by_task : Task → List NamedFile
 named_by_task (checks_form name) = certificate_named name ∷ []
 named_by_task (checks_ellipsoid name) = record { kind = an_ellipsoid; name = name } ∷ []
 named_by_task (runs_file name outputs) = record { kind = some_inputs; name = name } ∷ []
+named_by_task (emits_file_test prefix name) = record { kind = some_inputs; name = name } ∷ []
 named_by_task task = []
 
 -- a file's name, and a digest

@@ -9,7 +9,7 @@ use Rattle.dsv_certfile.specs.declared.certificate.Certificate.{Certificate}
 use Rattle.dsv_certfile.specs.declared.ellipsoid.Ellipsoid.{Ellipsoid}
 use Rattle.dsv_certfile.specs.declared.job.CertWords.{CertWords}
 use Rattle.dsv_command.specs.Table.{JobFiles, controller, cascade, states, plant_loop, cascade_loop}
-use Rattle.dsv_command.specs.Table.{Task, checks_form, checks_ellipsoid, runs_file}
+use Rattle.dsv_command.specs.Table.{Task, checks_form, checks_ellipsoid, runs_file, emits_file_test}
 use Rattle.dsv_report.specs.declared.stop.Stop.{Stop}
 use Rattle.dsv_files.specs.Files.{a_controller, a_state_controller, a_plant, a_certificate}
 use Rattle.dsv_files.specs.Files.{an_ellipsoid, some_inputs, IsFileOf, IsUnread, a_section}
@@ -82,6 +82,8 @@ HasEvidence old (checks_ellipsoid name) (ellipsoid offer) = IsFileOf an_ellipsoi
 HasEvidence old (checks_ellipsoid name) other = ⊥
 HasEvidence old (runs_file name outputs) (input_list xs) = IsFileOf some_inputs old name xs
 HasEvidence old (runs_file name outputs) other = ⊥
+HasEvidence old (emits_file_test prefix name) (input_list xs) = IsFileOf some_inputs old name xs
+HasEvidence old (emits_file_test prefix name) other = ⊥
 HasEvidence old task none = Unit {0}
 HasEvidence old task other = ⊥
 
@@ -90,6 +92,7 @@ abbrev pub IsEvidenceUnread : FilesSeen → FilesSeen → Task → Stop → Type
 IsEvidenceUnread old new (checks_form name) why = IsUnread a_certificate old new name why
 IsEvidenceUnread old new (checks_ellipsoid name) why = IsUnread an_ellipsoid old new name why
 IsEvidenceUnread old new (runs_file name outputs) why = IsUnread some_inputs old new name why
+IsEvidenceUnread old new (emits_file_test prefix name) why = IsUnread some_inputs old new name why
 IsEvidenceUnread old new task why = ⊥
 
 -- ---- what is said of files

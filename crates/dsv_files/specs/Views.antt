@@ -1,7 +1,7 @@
 -- For private contracts: what came of files, as the definitions have it.
 use Rattle.std.specs.Prelude.{◌≤◌, length}
 use Rattle.dsv_command.specs.Table.{Task, checks_form}
-use Rattle.dsv_command.specs.Table.{checks_ellipsoid, runs_file}
+use Rattle.dsv_command.specs.Table.{checks_ellipsoid, runs_file, emits_file_test}
 use Rattle.dsv_files.specs.JobTexts as rows
 use Rattle.dsv_files.specs.JobTexts.{JobTexts, of_one, of_sections, of_state_file, with_plant}
 use Rattle.dsv_files.specs.JobTexts.{sections_with_plant, none, certificate, ellipsoid, input_list}
@@ -32,5 +32,7 @@ IsEvidenceFor (checks_ellipsoid name) (ellipsoid offer) = offer.form.d ≤ 8
 IsEvidenceFor (checks_ellipsoid name) other = ⊥
 IsEvidenceFor (runs_file name outputs) (input_list xs) = length xs ≤ 65536
 IsEvidenceFor (runs_file name outputs) other = ⊥
+IsEvidenceFor (emits_file_test prefix name) (input_list xs) = length xs ≤ 65536
+IsEvidenceFor (emits_file_test prefix name) other = ⊥
 IsEvidenceFor task none = Unit {0}
 IsEvidenceFor task other = ⊥

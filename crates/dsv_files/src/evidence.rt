@@ -101,9 +101,9 @@ pub fn read_evidence<'a, F: Files>(
         Task::CheckEllipsoid(name) => {
             Ok(Evidence::Ellipsoid(read_offer(alloc, name, files, digests)?))
         }
-        Task::RunFile(name, _) => Ok(Evidence::Inputs(read_inputs_file(
-            alloc, name, files, digests,
-        )?)),
+        Task::RunFile(name, _) | Task::EmitFileTest(_, name) => Ok(Evidence::Inputs(
+            read_inputs_file(alloc, name, files, digests)?,
+        )),
         _ => Ok(Evidence::Nothing),
     }
 }

@@ -10,6 +10,7 @@ use Rattle.dsv_command.specs.Table.{JobFiles, controller, cascade, states, plant
 use Rattle.dsv_command.specs.Table.{cascade_loop, kind_of, Task, decides, checks_time, writes}
 use Rattle.dsv_command.specs.Table.{searches, seeks_set, measures_gain, simulates, checks_form}
 use Rattle.dsv_command.specs.Table.{runs_file, tells_words}
+use Rattle.dsv_command.specs.Table.{emits_code, emits_test, emits_file_test}
 use Rattle.dsv_command.specs.Table.{seeks_form, checks_ellipsoid, seeks_ellipsoid, Job, Request}
 use Rattle.dsv_command.specs.Table.{does}
 use Rattle.dsv_command.specs.Views.{job_view}
@@ -48,6 +49,9 @@ property_of measures_gain = Some (OfRuns Overflow)
 property_of (simulates inputs outputs) = None
 property_of (runs_file name outputs) = None
 property_of tells_words = None
+property_of (emits_code prefix) = None
+property_of (emits_test prefix inputs) = None
+property_of (emits_file_test prefix name) = None
 property_of (checks_form name) = Some (OfRoots Stability)
 property_of seeks_form = Some (OfRoots Stability)
 property_of (checks_ellipsoid name) = Some (OfRuns Overflow)

@@ -51,6 +51,7 @@ HasPlaces (answer.Spent log) = Unit {0}
 HasPlaces (answer.FormulaText formula) = Unit {0}
 HasPlaces (answer.Simulated found) = Unit {0}
 HasPlaces (answer.Outputs found) = Unit {0}
+HasPlaces (answer.Code text) = Unit {0}
 HasPlaces answer.Words = Unit {0}
 HasPlaces (answer.Generated found) = Unit {0}
 HasPlaces (answer.Checked job error) = Unit {0}

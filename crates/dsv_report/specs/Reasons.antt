@@ -21,7 +21,10 @@ allowed_values =
     (codes "rounding", codes "FLOOR, CEIL or NEAREST") ∷
     (codes "overflow-mode", codes "WRAPAROUND or SATURATE") ∷
     (codes "generate", codes "from 0 to 4294967295") ∷
-    (codes "count", codes "from 1 to 1000") ∷ []
+    (codes "count", codes "from 1 to 1000") ∷ (
+      codes "c-name",
+      codes "a letter and up to 30 letters, digits or _; no word of C or <stdint.h>",
+    ) ∷ []
 
 abbrev pub allowed_in : List (List ℕ × List ℕ) → List ℕ → List ℕ
 allowed_in table name = unwrap_or (lookup (bytes_eq name) table) (codes "the name of a file")

@@ -88,6 +88,10 @@ abbrev pub input_text : ℕ → ℤ → List ℕ
 input_text index value = concatenation
     (input_code ∷ signed_decimal (pos index) ∷ codes " " ∷ signed_decimal value ∷ codes "\n" ∷ [])
 
+-- value V needs more than 64 bits in C
+abbrev pub wide_code_text : ℕ → List ℕ
+wide_code_text value = number_line (codes "CODE REFUSED 71 WIDE value ") value
+
 -- why a file of inputs is refused
 abbrev pub inputs_text : InputsFault → List ℕ
 inputs_text (fault.Text (inputs.Number line)) =

@@ -42,6 +42,7 @@ use Rattle.dsv_poly_table.specs.declared.sections.SectionTables.TheVariants as s
 use Rattle.dsv_table.specs.declared.verdict.TableVerdict.{TableVerdict}
 use Rattle.dsv_table.specs.declared.verdict.TableVerdict.TheVariants as table
 use Rattle.dsv_report.specs.Refusals.{inputs_text, file_text, quant_text, input_text}
+use Rattle.dsv_report.specs.Refusals.{wide_code_text}
 use Rattle.dsv_report.specs.StateTexts.{no_state_form_text, state_text}
 use Rattle.dsv_report.specs.StateTexts.{state_quant_text}
 use Rattle.dsv_report.specs.Stops.{Outcome}
@@ -220,6 +221,7 @@ verdict_of (answer.Spent log) = Inconclusive
 verdict_of (answer.FormulaText formula) = Plain
 verdict_of (answer.Simulated rows) = Simulation
 verdict_of (answer.Outputs rows) = Plain
+verdict_of (answer.Code text) = Plain
 verdict_of answer.Words = Plain
 verdict_of (answer.Generated found) = Plain
 verdict_of (answer.Checked certified error) = Plain
@@ -255,6 +257,7 @@ body_text (answer.Spent log) = spent_text (length log)
 body_text (answer.FormulaText formula) = dimacs_text formula
 body_text (answer.Simulated rows) = samples_text 0 rows
 body_text (answer.Outputs rows) = flat_map output_text rows
+body_text (answer.Code text) = text
 body_text answer.Words = []
 body_text (answer.Generated found) = tally_text found
 body_text (answer.Checked certified error) = shown_text error
@@ -282,9 +285,19 @@ place_text (file.Section section) = section_line section
 place_text file.Plant = plant_line
 place_text which = []
 
+-- the file that couldn't be read
+abbrev pub read_fault_text : WhichFile → List ℕ
+read_fault_text file.Controller = codes "READ FAULT CONTROLLER\n"
+read_fault_text file.Certificate = codes "READ FAULT CERTIFICATE\n"
+read_fault_text (file.Section section) =
+    number_line (codes "READ FAULT SECTION ") section
+read_fault_text file.Plant = codes "READ FAULT PLANT\n"
+read_fault_text file.Inputs = codes "READ FAULT INPUTS\n"
+
 -- the text where there is no answer
 abbrev pub stop_text : Stop → List ℕ
 stop_text (stop.JobSize size) = size_text size
+stop_text (stop.WideCode value) = wide_code_text value
 stop_text (stop.CertificateRefused line fault) = certificate_text line fault
 stop_text stop.Usage = codes "USAGE\n"
 stop_text (stop.FileRefused which r) = place_text which ++ file_text r
@@ -297,12 +310,7 @@ stop_text (stop.StateQuantRefused r) = state_quant_text r
 stop_text (stop.InputRange index value) = input_text index value
 stop_text (stop.EllipsoidText r) = offer_fault_text r.line r.fault
 stop_text (stop.EllipsoidRefused r) = ellipsoid_refusal_text r
-stop_text (stop.ReadFault file.Controller) = codes "READ FAULT CONTROLLER\n"
-stop_text (stop.ReadFault file.Certificate) = codes "READ FAULT CERTIFICATE\n"
-stop_text (stop.ReadFault (file.Section section)) =
-    number_line (codes "READ FAULT SECTION ") section
-stop_text (stop.ReadFault file.Plant) = codes "READ FAULT PLANT\n"
-stop_text (stop.ReadFault file.Inputs) = codes "READ FAULT INPUTS\n"
+stop_text (stop.ReadFault which) = read_fault_text which
 stop_text (stop.InputsRefused fault) = inputs_text fault
 stop_text stop.NoMemory = codes "NO MEMORY\n"
 
@@ -312,6 +320,7 @@ answer_status found = verdict_status (verdict_of found)
 
 abbrev pub stop_status : Stop → ℕ
 stop_status (stop.JobSize size) = 6
+stop_status (stop.WideCode value) = 6
 stop_status (stop.CertificateRefused line fault) = 7
 stop_status stop.Usage = 1
 stop_status (stop.FileRefused which r) = 2

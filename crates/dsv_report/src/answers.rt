@@ -1,4 +1,5 @@
 // What the command finds.
+use dsv_base::Bytes;
 use dsv_cascade::CascadeForms;
 use dsv_certfile::{CertifiedJob, Ellipsoid};
 use dsv_cnf::Formula;
@@ -131,6 +132,8 @@ pub enum Answer {
     Simulated(Rows),
     /// So they are, of which the outputs alone are written.
     Outputs(Rows),
+    /// The text of its C.
+    Code(Bytes),
     /// The words of what is asked about, and no more: the lines of the report tell them.
     Words,
     /// What is found of generated controllers.

@@ -38,7 +38,12 @@ pub(crate) fn property_of(task: &Task) -> Option<Property>
         Task::SeekSet(_) | Task::MeasureGain | Task::CheckEllipsoid(_) | Task::SeekEllipsoid => {
             Some(Property::OfRuns(RunProperty::Overflow))
         }
-        Task::Simulate(_, _) | Task::RunFile(_, _) | Task::TellWords => None,
+        Task::Simulate(_, _)
+        | Task::RunFile(_, _)
+        | Task::TellWords
+        | Task::EmitCode(_)
+        | Task::EmitTest(_, _)
+        | Task::EmitFileTest(_, _) => None,
     }
 }
 

@@ -21,7 +21,7 @@ struct OptionValues {
 }
 
 /// The options whose values are other than names of files.
-const ALLOWED: [OptionValues; 10] = [
+const ALLOWED: [OptionValues; 11] = [
     OptionValues {
         option: "property",
         values: "OVERFLOW, LIMIT_CYCLE, STABILITY, MINIMUM_PHASE or TIMING",
@@ -61,6 +61,10 @@ const ALLOWED: [OptionValues; 10] = [
     OptionValues {
         option: "count",
         values: "from 1 to 1000",
+    },
+    OptionValues {
+        option: "c-name",
+        values: "a letter and up to 30 letters, digits or _; no word of C or <stdint.h>",
     },
 ];
 

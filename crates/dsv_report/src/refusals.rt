@@ -4,7 +4,7 @@ ghost use Rattle.dsv_base.specs.Taking.{Writes};
 ghost use Rattle.dsv_report.specs.Refusals.{code_of, place_of, detail_head, detail_name};
 ghost use Rattle.dsv_report.specs.Refusals.{file_text, quant_code, quant_text};
 ghost use Rattle.dsv_report.specs.Refusals.{quant_text_after, input_code, input_text};
-ghost use Rattle.dsv_report.specs.Refusals.{inputs_text};
+ghost use Rattle.dsv_report.specs.Refusals.{inputs_text, wide_code_text};
 
 use crate::fragments::{Fragment, put_fragments};
 use crate::lines::put_number_line;
@@ -176,6 +176,13 @@ pub fn put_input_range<K: Sink>(sink: &mut K, index: u32, value: &i128) -> Resul
             Fragment::Bytes(b"\n"),
         ],
     )
+}
+
+/// Writes that a value needs more than 64 bits in C.
+pub(crate) fn put_wide_code<K: Sink>(sink: &mut K, value: u64) -> Result<(), Failed>
+    ensures { Writes (K.seen sink.old) (K.seen sink.new) result (wide_code_text value) }
+{
+    put_number_line(sink, b"CODE REFUSED 71 WIDE value ", value)
 }
 
 /// Writes why a file of inputs is refused.

@@ -315,6 +315,7 @@ fn put_body<K: Sink>(sink: &mut K, answer: &Answer) -> Result<(), Failed>
         Answer::FormulaText(formula) => write_dimacs(formula, sink),
         Answer::Simulated(rows) => put_samples(sink, rows.as_slice()),
         Answer::Outputs(rows) => put_outputs(sink, rows.as_slice()),
+        Answer::Code(text) => put_all(sink, text.as_slice()),
         Answer::Words => put_all(sink, b""),
         Answer::Generated(found) => put_tally(sink, found),
         Answer::Checked { error, .. } => put_shown_error(sink, *error),

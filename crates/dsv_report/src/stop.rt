@@ -84,6 +84,10 @@ pub enum Stop {
     JobSize {
         size: u64,
     },
+    /// The first value that needs more than 64 bits in C, counted from 0.
+    WideCode {
+        value: u32,
+    },
     /// The first line of the certificate that is wrong, counted from 1, and 0 for the whole file.
     CertificateRefused {
         line: u64,

@@ -2,14 +2,17 @@
 ghost use Rattle.std.specs.Prelude.{◌≡◌, ◌++◌};
 ghost use Rattle.dsv_base.specs.Taking.{Writes};
 ghost use Rattle.dsv_report.specs.Refusals.{file_text, quant_text};
-ghost use Rattle.dsv_report.specs.Report.{place_text, stop_status, stop_text, too_long_text};
+ghost use Rattle.dsv_report.specs.Report.{place_text, read_fault_text, stop_status, stop_text};
+ghost use Rattle.dsv_report.specs.Report.{too_long_text};
 
 use crate::cascades::{put_cascade_refusal, put_section};
 use crate::certificates::put_certificate_refusal;
 use crate::ellipsoids::{put_ellipsoid_refusal, put_offer_fault};
 use crate::lines::put_number_line;
 use crate::loops::{put_loop_refusal, put_plant};
-use crate::refusals::{put_file_refusal, put_input_range, put_inputs_refusal, put_quant_refusal};
+use crate::refusals::{
+    put_file_refusal, put_input_range, put_inputs_refusal, put_quant_refusal, put_wide_code,
+};
 use crate::states::{put_state_quant_refusal, put_state_refusal};
 use crate::stop::{Stop, WhichFile};
 use dsv_base::{Failed, Sink, put_all};
@@ -33,7 +36,7 @@ pub(crate) fn stop_status(stop: &Stop) -> u8
         | Stop::InputsRefused(_) => 2,
         Stop::ReadFault(_) => 3,
         Stop::NoMemory => 5,
-        Stop::JobSize { .. } => 6,
+        Stop::JobSize { .. } | Stop::WideCode { .. } => 6,
         Stop::CertificateRefused { .. } | Stop::EllipsoidText(_) | Stop::EllipsoidRefused(_) => 7,
     }
 }
@@ -80,6 +83,21 @@ fn put_wordless<K: Sink>(
     put_quant_refusal(sink, refusal)
 }
 
+/// Writes that a file couldn't be read.
+fn put_read_fault<K: Sink>(sink: &mut K, which: WhichFile) -> Result<(), Failed>
+    ensures { Writes (K.seen sink.old) (K.seen sink.new) result (read_fault_text which) }
+{
+    match which {
+        WhichFile::Controller => put_all(sink, b"READ FAULT CONTROLLER\n"),
+        WhichFile::Certificate => put_all(sink, b"READ FAULT CERTIFICATE\n"),
+        WhichFile::Section(section) => {
+            put_number_line(sink, b"READ FAULT SECTION ", section.into())
+        }
+        WhichFile::Plant => put_all(sink, b"READ FAULT PLANT\n"),
+        WhichFile::Inputs => put_all(sink, b"READ FAULT INPUTS\n"),
+    }
+}
+
 /// Writes why there is no answer. It takes no memory.
 pub(crate) fn put_stop<K: Sink>(sink: &mut K, stop: &Stop) -> Result<(), Failed>
     ensures { Writes (K.seen sink.old) (K.seen sink.new) result (stop_text stop.now) }
@@ -95,16 +113,11 @@ pub(crate) fn put_stop<K: Sink>(sink: &mut K, stop: &Stop) -> Result<(), Failed>
         Stop::StateQuantRefused(refusal) => put_state_quant_refusal(sink, *refusal),
         Stop::InputRange { index, value } => put_input_range(sink, *index, value),
         Stop::JobSize { size } => put_number_line(sink, b"JOB SIZE ", *size),
+        Stop::WideCode { value } => put_wide_code(sink, u64::from(*value)),
         Stop::CertificateRefused { line, fault } => put_certificate_refusal(sink, *line, *fault),
         Stop::EllipsoidText(refusal) => put_offer_fault(sink, refusal.line, refusal.fault),
         Stop::EllipsoidRefused(refusal) => put_ellipsoid_refusal(sink, refusal),
-        Stop::ReadFault(WhichFile::Controller) => put_all(sink, b"READ FAULT CONTROLLER\n"),
-        Stop::ReadFault(WhichFile::Certificate) => put_all(sink, b"READ FAULT CERTIFICATE\n"),
-        Stop::ReadFault(WhichFile::Section(section)) => {
-            put_number_line(sink, b"READ FAULT SECTION ", (*section).into())
-        }
-        Stop::ReadFault(WhichFile::Plant) => put_all(sink, b"READ FAULT PLANT\n"),
-        Stop::ReadFault(WhichFile::Inputs) => put_all(sink, b"READ FAULT INPUTS\n"),
+        Stop::ReadFault(which) => put_read_fault(sink, *which),
         Stop::InputsRefused(fault) => put_inputs_refusal(sink, *fault),
         Stop::NoMemory => put_all(sink, b"NO MEMORY\n"),
     }

@@ -159,6 +159,7 @@ pub(crate) fn verdict_of(answer: &Answer) -> Verdict
         Answer::FoundEllipsoid(_)
         | Answer::FormulaText(_)
         | Answer::Outputs(_)
+        | Answer::Code(_)
         | Answer::Words
         | Answer::Generated(_)
         | Answer::Checked { .. } => Verdict::Plain,
