@@ -223,6 +223,12 @@ OTHERS = [
          "`--outputs`, with `--simulate` or `--inputs`: the outputs alone, one a line.",
          "compare them with the board's.",
          "small/halving.dsv --inputs small/inputs.txt --outputs"),
+    Kind("The C of a controller", 0, r"/\* .*",
+         "`--emit-c`: a struct of the registers, a function that sets them to 0, and one for a sample, in which the line of `value_3` "
+         "computes value 3 of the reports. Under the meaning of C that is written down it runs as the written equations. With `--simulate` "
+         "or `--inputs` a test of it stands after it.",
+         "docs/GUIDE.md, \"From the file to the board\".",
+         "motor_pi.dsv --emit-c"),
     Kind("The words", 0, r"sha256 .*",
          "`--words`: the SHA-256 digest of each file that was read, with the name that the command line has for it; the format, the "
          "rounding and the overflow mode; the range of the inputs, after which `cut` says that the format has no words for all of the "
@@ -344,6 +350,8 @@ STOPPED = [
     Kind("Memory", 5, r"NO MEMORY\n", "out of memory", "fewer samples", None, "none stands here"),
     Kind("The job's size", 6, r"JOB SIZE .*", "samples (nine for `--unbounded`) times products times the square of a word's bits is over 250,000",
          "fewer samples or bits; a direct form", "small/large_job.dsv --property OVERFLOW --x-size 49"),
+    Kind("The code's width", 6, r"CODE REFUSED 71 .*", "71 `WIDE`: `--emit-c`, and this value needs more than 64 bits", "fewer bits; without `wide`",
+         "small/widest_sum.dsv --emit-c"),
     Kind("The arguments", 8, r"ARGUMENTS\n", "they can't be read; nothing is written", "names of files in UTF-8", None, "none stands here"),
     Kind("The launcher", 9, r"LAUNCHER\n", "nothing could be run: standard error says why", "`./dsv --prove`, and the toolchain", None,
          "none stands here"),
