@@ -5,6 +5,7 @@ pub mod Blocks
 pub mod BuiltIn
 pub mod CascadeRows
 pub mod Causes
+pub mod CodeLaws
 pub mod CertifiedWords
 pub mod CheckedWords
 pub mod Completeness

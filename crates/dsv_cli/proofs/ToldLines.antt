@@ -10,7 +10,7 @@ use Rattle.dsv_files.specs.declared.digests.FileDigest.{FileDigest}
 use Rattle.dsv_files.specs.Digests.{NamedFile, DigestView, digest_view, AreLogged, named_by, named_by_task, certificate_named}
 use Rattle.dsv_files.specs.JobTexts.{JobTexts}
 use Rattle.dsv_files.proofs.LoggedDigests.{logged_earlier, logged_more}
-use Rattle.dsv_cli.specs.Told.{told_by, TellsWords, AreLinesOf, AreLinesOfCheck}
+use Rattle.dsv_cli.specs.Told.{told_by, titled_by, TellsWords, TellsTitle, AreLinesOf, AreLinesOfCheck}
 use Rattle.dsv_cli.specs.Words.{JobWords, BecomeJobWords}
 
 -- the files that were read first, and those after them
@@ -31,13 +31,26 @@ told_if : (worded : Bool) (P Q R : Type 0) → (P → Q) → MatchBool worded P 
 told_if true P Q R f h = f h
 told_if false P Q R f h = h
 
+tell_title : (old : FilesSeen) (files : List NamedFile) (log : List FileDigest) (task : Task) (lines : List ℕ) → AreLogged old files [] log → lines ≡ titled_by (map digest_view log) task → TellsTitle old files task lines
+tell_title old files log task lines h e = record {
+  digests = h.digests;
+  are_digests = h.are_digests;
+  same = e ∙ ap (λ ds. titled_by ds task) h.grown;
+}
+
+titled_if : (worded : Bool) (P Q R S : Type 0) → (P → Q) → (R → S) → MatchBool worded P R → MatchBool worded Q S
+titled_if true P Q R S f k h = f h
+titled_if false P Q R S f k h = k h
+
 -- those of a job
 pub job_told : (old then : FilesSeen) (job : Job) (texts : JobTexts) (words : JobWords) (lines : List ℕ) (middle after : List FileDigest) → AreKept old then → AreLogged old (named_by job.files) [] middle → AreLogged then (named_by_task job.task) middle after
-    → BecomeJobWords job.design texts words → MatchBool job.worded (lines ≡ told_by (map digest_view after) texts words job.task) (lines ≡ []) → AreLinesOf old job texts lines
+    → BecomeJobWords job.design texts words → MatchBool job.worded (lines ≡ told_by (map digest_view after) texts words job.task) (lines ≡ titled_by (map digest_view after) job.task) → AreLinesOf old job texts lines
 job_told old then job texts words lines middle after k h g b told =
     let files = named_by job.files ++ named_by_task job.task in
-    told_if job.worded (lines ≡ told_by (map digest_view after) texts words job.task) (TellsWords old files job.task job.design texts lines) (lines ≡ [])
-    (tell_words old files after job.task job.design texts words lines (both_logged old then (named_by job.files) (named_by_task job.task) middle after k h g) b) told
+    let logged = both_logged old then (named_by job.files) (named_by_task job.task) middle after k h g in
+    titled_if job.worded (lines ≡ told_by (map digest_view after) texts words job.task) (TellsWords old files job.task job.design texts lines)
+    (lines ≡ titled_by (map digest_view after) job.task) (TellsTitle old files job.task lines)
+    (tell_words old files after job.task job.design texts words lines logged b) (tell_title old files after job.task lines logged) told
 
 -- those of a check
 pub check_told : (old then : FilesSeen) (files : JobFiles) (name : List ℕ) (worded : Bool) (texts : JobTexts) (c : Certificate) (lines : List ℕ) (middle after : List FileDigest) → AreKept old then → AreLogged old (named_by files) [] middle

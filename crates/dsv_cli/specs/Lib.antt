@@ -3,6 +3,7 @@ pub mod Answering
 pub mod Asking
 pub mod Cascades
 pub mod Causes
+pub mod CodeLaw
 pub mod Checking
 pub mod Completeness
 pub mod Ellipsoids

@@ -27,7 +27,8 @@ pub record IsDone (old new : FilesSeen) (from to : SinkSeen) (arguments : List (
   -- what a certificate says of the words is what the texts of this row have, and so is how many
   -- states the report of a state-space controller says
   pub said : IsSaid old new (request_of arguments) done.outcome explained done.states done.words
-  -- the lines that tell words are those of the texts of this row, if they are asked for
+  -- the lines at the head are those of this row: those that tell words, if they are asked for, or
+  -- before C the name of the controller
   pub lines : AreLines old new (request_of arguments) done.outcome explained done.lines
   -- the proposers of sets were asked for the words of this row
   pub sets : AreAsked (AreInRow old new (request_of arguments) done.outcome explained)

@@ -1,12 +1,13 @@
--- The lines that tell what a report is about: the files by their digests, the words, and what
--- timing takes of a file.
-use Rattle.std.specs.Prelude.{◌≡◌, ℕ, Bool, MatchBool, List, [], ◌∷◌, ◌++◌}
+-- The lines at the head of a text: those that tell what a report is about, the files by their
+-- digests, the words, and what timing takes of a file; and before C the name of the controller.
+use Rattle.std.specs.Prelude.{◌≡◌, ℕ, Bool, MatchBool, List, [], ◌∷◌, ◌++◌, codes}
 use Rattle.std.specs.List.{flat_map}
 use Rattle.dsv_base.specs.Seen.{FilesSeen}
 use Rattle.dsv_names.specs.declared.design.Design.{Design}
 use Rattle.dsv_certfile.specs.Texts.{job_of}
 use Rattle.dsv_certfile.specs.declared.certificate.Certificate.{Certificate}
 use Rattle.dsv_command.specs.Table.{JobFiles, Task, checks_time, Job, tells_words}
+use Rattle.dsv_command.specs.Table.{emits_code, emits_test, emits_file_test}
 use Rattle.dsv_files.specs.declared.digests.FileDigest.{FileDigest}
 use Rattle.dsv_files.specs.Digests.{DigestView, AreDigests, NamedFile, named_by, named_by_task}
 use Rattle.dsv_files.specs.Digests.{certificate_named, digest_view}
@@ -43,6 +44,28 @@ abbrev pub told_by : List DigestView → JobTexts → JobWords → Task → List
 told_by digests texts words task =
     flat_map digest_text digests ++ (word_lines texts words ++ timing_line task texts)
 
+-- ---- the name
+-- a comment of C that says it
+abbrev pub name_comment : List ℕ → List ℕ
+name_comment name = codes "/* " ++ (name ++ (codes " */" ++ 10 ∷ []))
+
+-- if there is one
+abbrev pub title_comment : List ℕ → List ℕ
+title_comment [] = []
+title_comment (c ∷ cs) = name_comment (c ∷ cs)
+
+-- the name in the first file
+abbrev pub first_title : List DigestView → List ℕ
+first_title [] = []
+first_title (d ∷ ds) = title_comment d.title
+
+-- before C; other texts have none
+abbrev pub titled_by : List DigestView → Task → List ℕ
+titled_by digests (emits_code prefix) = first_title digests
+titled_by digests (emits_test prefix inputs) = first_title digests
+titled_by digests (emits_file_test prefix name) = first_title digests
+titled_by digests other = []
+
 -- ---- what is told
 -- These lines tell the digests of these files, in their order, the words that these texts become in
 -- a design, and what a task takes of them beside that.
@@ -54,11 +77,19 @@ pub record TellsWords (old : FilesSeen) (files : List NamedFile) (task : Task) (
   pub become_words : BecomeJobWords design texts words
   pub same : lines ≡ told_by digests texts words task
 
--- the lines in the report of a job, if it asks for them
+-- these lines tell what one of these files calls the controller, if the task is one of C, and else
+-- nothing
+pub record TellsTitle (old : FilesSeen) (files : List NamedFile) (task : Task) (lines : List ℕ)
+    : Type 0 where
+  pub digests : List DigestView
+  pub are_digests : AreDigests old files digests
+  pub same : lines ≡ titled_by digests task
+
+-- the lines in the report of a job that asks for them, and before C
 abbrev pub AreLinesOf : FilesSeen → Job → JobTexts → List ℕ → Type 0
 AreLinesOf old job texts lines = MatchBool job.worded
     (TellsWords old (named_by job.files ++ named_by_task job.task) job.task job.design texts lines)
-    (lines ≡ [])
+    (TellsTitle old (named_by job.files ++ named_by_task job.task) job.task lines)
 
 -- those in the report of a check of this certificate, in the file of this name: the words are those
 -- of its design

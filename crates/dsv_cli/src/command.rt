@@ -41,7 +41,8 @@ pub struct Done {
     pub words: CertWords,
     /// How many states a state-space controller has, as its accepted file says; 0 of all else.
     pub states: u32,
-    /// The lines of its report that tell words.
+    /// The lines at the head of its text: those that tell words, if they are asked for, or before C
+    /// the name of the controller.
     pub lines: Bytes,
 }
 

@@ -13,7 +13,7 @@ ghost use Rattle.dsv_cli.specs.Proposers.{IsAsked, AreSetsAsked};
 ghost use Rattle.dsv_cli.specs.Proposers.{Wants, Decides, AsksSchurCohn, Seeks};
 ghost use Rattle.dsv_cli.specs.Stages.{AreUnready, AsksMore, IsAlone, IsNoController};
 ghost use Rattle.dsv_cli.specs.Stages.{IsSaidBeside, kind_in, texts_in, words_in};
-ghost use Rattle.dsv_cli.specs.Told.{told_by};
+ghost use Rattle.dsv_cli.specs.Told.{titled_by, told_by};
 ghost use Rattle.dsv_files.specs.Digests.{AreLogged, digest_view, named_by_task};
 ghost use Rattle.dsv_files.specs.JobTexts.{HasEvidence};
 ghost use Rattle.dsv_files.specs.Views.{IsEvidenceFor, evidence_view, texts_view};
@@ -27,7 +27,7 @@ use crate::proposers::Proposers;
 use crate::roots::roots_answer;
 use crate::sets::sets_answer;
 use crate::states::states_answer;
-use crate::told::told_lines;
+use crate::told::head_lines;
 use dsv_base::{Bytes, Files};
 use dsv_certfile::CertWords;
 use dsv_command::{Job, Task};
@@ -46,7 +46,7 @@ pub(crate) struct Found {
     pub words: CertWords,
     /// How many states a state-space controller has, as its accepted file says; 0 of all else.
     pub states: u32,
-    /// The lines of its report that tell words.
+    /// The lines at the head of its text.
     pub lines: Bytes,
 }
 
@@ -67,8 +67,8 @@ impl Found {
     }
 }
 
-/// What a job has before its task is done: what the task names, the words, and the lines that tell
-/// them.
+/// What a job has before its task is done: what the task names, the words, and the lines at the
+/// head of its text.
 #[derive(Drop)]
 struct Ready<'a> {
     evidence: Evidence,
@@ -206,14 +206,15 @@ fn ready_for<'a, 't, F: Files>(
         (named_by_task (task_view job.now.task)) digests.old digests.new) }
     ensures lines { IfOk result (λ ready. MatchBool job.now.worded
         (ready.lines ≡ told_by (map digest_view digests.new) (texts_view texts.entry.now)
-        (words_in ready.subject) (task_view job.now.task)) (ready.lines ≡ [])) }
+        (words_in ready.subject) (task_view job.now.task))
+        (ready.lines ≡ titled_by (map digest_view digests.new) (task_view job.now.task))) }
     ensures unready { IfErr result (AreUnready (F.seen files.old) (F.seen files.new)
         (texts_view texts.entry.now) (task_view job.now.task) job.now.design) }
     ensures kept { AreKept (F.seen files.old) (F.seen files.new) }
 {
     let evidence = read_evidence(alloc, &job.task, files, digests)?;
     let subject = words_of(alloc, texts, job.design)?;
-    let lines = told_lines(alloc, job.worded, digests.as_slice(), &job.task, &subject)?;
+    let lines = head_lines(alloc, job.worded, digests.as_slice(), &job.task, &subject)?;
     Ok(Ready {
         evidence,
         subject,

@@ -1,5 +1,6 @@
 // What a controller file is answered by, and what its certificate.
 ghost use Rattle.dsv_cli.specs.Accepted.{WrittenAreAccepted};
+ghost use Rattle.dsv_cli.specs.CodeLaw.{VerdictsSpeakOfCode};
 ghost use Rattle.dsv_cli.specs.Completeness.{AreDecided};
 ghost use Rattle.dsv_cli.specs.Exact.{RefusalsComeExactly};
 ghost use Rattle.dsv_cli.specs.OneAnswer.{HaveOneAnswer};
@@ -34,4 +35,13 @@ pub fn jobs_are_decided()
 /// memory. So each refusal comes exactly where its row states it. The call does nothing.
 pub fn refusals_come_exactly()
     ensures { RefusalsComeExactly }
+{}
+
+/// The law of C, for proofs: if C was written of a file in a design, then each verdict on files of
+/// the same bytes in the same design, alone or in a loop with a plant, is about the words of that
+/// C: its init sets all registers to 0, no step is stuck over any list of words, and its results
+/// are the outputs of the written equations that the verdict's row speaks of. The call does
+/// nothing.
+pub fn verdicts_speak_of_code()
+    ensures { VerdictsSpeakOfCode }
 {}

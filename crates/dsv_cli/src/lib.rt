@@ -35,7 +35,7 @@ pub use dsv_report::{Answer, CertificateFault, Stop, WhichFile};
 pub use dsv_template::{BoxProposer, InvariantProposer};
 pub use forms::{FormAnswer, decide};
 pub use law::{
-    jobs_are_decided, refusals_come_exactly, told_files_have_one_answer,
+    jobs_are_decided, refusals_come_exactly, told_files_have_one_answer, verdicts_speak_of_code,
     written_certificates_are_accepted,
 };
 pub use os_files::{OsFiles, OsOut};

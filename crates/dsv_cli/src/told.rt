@@ -1,11 +1,12 @@
-// Writes the lines that tell what a report is about.
+// Writes the lines at the head of a text.
 ghost use Rattle.std.specs.Prelude.{◌≡◌, ◌++◌, MatchBool, [], map, IfOk};
 ghost use Rattle.std.specs.List.{flat_map};
 ghost use Rattle.dsv_base.specs.Taking.{Writes};
 ghost use Rattle.dsv_command.specs.Views.{task_view};
 ghost use Rattle.dsv_files.specs.Digests.{digest_view};
 ghost use Rattle.dsv_cli.specs.Stages.{texts_in, words_in};
-ghost use Rattle.dsv_cli.specs.Told.{file_line, timing_line, told_by, word_lines};
+ghost use Rattle.dsv_cli.specs.Told.{file_line, first_title, name_comment, timing_line};
+ghost use Rattle.dsv_cli.specs.Told.{title_comment, titled_by, told_by, word_lines};
 
 use crate::in_words::InWords;
 use dsv_base::{Bytes, Failed, NoMemory, Sink, put_all};
@@ -123,5 +124,74 @@ pub(crate) fn told_lines(
         told_text(alloc, digests, task, subject)
     } else {
         Ok(Bytes::new(alloc))
+    }
+}
+
+/// Writes a comment of C that has a name.
+fn put_name<K: Sink>(sink: &mut K, name: &[u8]) -> Result<(), Failed>
+    ensures { Writes (K.seen sink.old) (K.seen sink.new) result (name_comment name.now) }
+{
+    put_all(sink, b"/* ")?;
+    put_all(sink, name)?;
+    put_all(sink, b" */\n")
+}
+
+/// Writes a comment of C that has the name of a controller, if it has one.
+fn put_title<K: Sink>(sink: &mut K, title: &[u8]) -> Result<(), Failed>
+    ensures { Writes (K.seen sink.old) (K.seen sink.new) result (title_comment title.now) }
+{
+    if title.is_empty() {
+        put_all(sink, b"")
+    } else {
+        put_name(sink, title)
+    }
+}
+
+/// A comment of C that has the name that the first file gives its controller.
+fn title_text(alloc: Global, digests: &[FileDigest]) -> Result<Bytes, NoMemory>
+    ensures { IfOk result (λ lines. lines ≡ first_title (map digest_view digests.now)) }
+{
+    let mut text = TextSink::new(alloc);
+    if let Some(file) = digests.first() {
+        match put_title(&mut text, file.title.as_slice()) {
+            Ok(()) => Ok(text.into_bytes()),
+            Err(_) => Err(NoMemory),
+        }
+    } else {
+        Ok(Bytes::new(alloc))
+    }
+}
+
+/// The lines before what a task comes to that tells no words.
+fn title_lines(alloc: Global, digests: &[FileDigest], task: &Task) -> Result<Bytes, NoMemory>
+    ensures { IfOk result (λ lines. lines
+        ≡ titled_by (map digest_view digests.now) (task_view task.now)) }
+{
+    match task {
+        Task::EmitCode(_) | Task::EmitTest(_, _) | Task::EmitFileTest(_, _) => {
+            title_text(alloc, digests)
+        }
+        _ => Ok(Bytes::new(alloc)),
+    }
+}
+
+/// The lines at the head of a job's text: those that tell words, if they are asked for, or a
+/// controller's name before C.
+pub(crate) fn head_lines(
+    alloc: Global,
+    worded: bool,
+    digests: &[FileDigest],
+    task: &Task,
+    subject: &InWords,
+) -> Result<Bytes, NoMemory>
+    ensures { IfOk result (λ lines. MatchBool worded (lines ≡ told_by
+        (map digest_view digests.now) (texts_in subject.now) (words_in subject.now)
+        (task_view task.now))
+        (lines ≡ titled_by (map digest_view digests.now) (task_view task.now))) }
+{
+    if worded {
+        told_text(alloc, digests, task, subject)
+    } else {
+        title_lines(alloc, digests, task)
     }
 }

@@ -3,3 +3,4 @@ pub mod FileBytes
 pub mod LaterFiles
 pub mod Told
 pub mod Pairwise
+pub mod TitleTokens

@@ -8,15 +8,16 @@ use Rattle.dsv_base.specs.Seen.{FilesSeen, AreKept, CameOf}
 use Rattle.dsv_files.specs.declared.digests.FileDigest.{FileDigest}
 use Rattle.dsv_files.specs.Digests.{NamedFile, section_named, DigestView, digest_view, IsDigestOf, AreLogged}
 use Rattle.dsv_files.specs.Files.{FileKind, Content, IsText, limit_of, which_of}
+use Rattle.dsv_files.specs.Titles.{title_for}
 use Rattle.dsv_files.proofs.Pairwise.{pairs_weaker}
 
 -- ---- one file
 pub logged_one : (old : FilesSeen) (kind : FileKind) (name bytes : List ℕ) (x : Content kind) (before after : List FileDigest) → IfSome (old.held name) (λ file. bytes ≡ file)
-    → length bytes ≤ limit_of (which_of kind) → IsText kind bytes x → map digest_view after ≡ map digest_view before ++ record { name = name; digest = sha256 bytes } ∷ []
+    → length bytes ≤ limit_of (which_of kind) → IsText kind bytes x → map digest_view after ≡ map digest_view before ++ record { name = name; digest = sha256 bytes; title = title_for kind bytes } ∷ []
     → AreLogged old (record { kind = kind; name = name } ∷ []) before after
 logged_one old kind name bytes x before after came short text grown = record {
-  digests = record { name = name; digest = sha256 bytes } ∷ [];
-  are_digests = (record { same = refl; content = x; came = (bytes, came, (short, text, refl)) }, tt);
+  digests = record { name = name; digest = sha256 bytes; title = title_for kind bytes } ∷ [];
+  are_digests = (record { same = refl; content = x; came = (bytes, came, (short, text, refl, refl)) }, tt);
   grown = grown;
 }
 
@@ -39,7 +40,7 @@ digest_earlier : (old then : FilesSeen) → AreKept old then → (file : NamedFi
 digest_earlier old then k file d h = record {
   same = h.same;
   content = h.content;
-  came = subst (λ held. CameOf (held file.name) (λ bytes. (length bytes ≤ limit_of (which_of file.kind)) × IsText file.kind bytes h.content × (d.digest ≡ sha256 bytes))) k.held h.came;
+  came = subst (λ held. CameOf (held file.name) (λ bytes. (length bytes ≤ limit_of (which_of file.kind)) × IsText file.kind bytes h.content × (d.digest ≡ sha256 bytes) × (d.title ≡ title_for file.kind bytes))) k.held h.came;
 }
 
 pub logged_earlier : (old then : FilesSeen) (files : List NamedFile) (before after : List FileDigest) → AreKept old then → AreLogged then files before after → AreLogged old files before after

@@ -9,6 +9,7 @@ use Rattle.dsv_files.specs.declared.digests.FileDigest.{FileDigest}
 use Rattle.dsv_files.specs.Files.{FileKind, a_controller, a_state_controller, a_plant}
 use Rattle.dsv_files.specs.Files.{a_certificate, an_ellipsoid, some_inputs, Content, IsText}
 use Rattle.dsv_files.specs.Files.{limit_of, which_of}
+use Rattle.dsv_files.specs.Titles.{title_for}
 
 -- a file by what it has to be, and its name
 pub record NamedFile : Type 0 where
@@ -41,21 +42,23 @@ named_by_task (runs_file name outputs) = record { kind = some_inputs; name = nam
 named_by_task (emits_file_test prefix name) = record { kind = some_inputs; name = name } ∷ []
 named_by_task task = []
 
--- a file's name, and a digest
+-- a file's name, a digest, and the name of a controller
 pub record DigestView : Type 0 where
   pub name : List ℕ
   pub digest : List ℕ
+  pub title : List ℕ
 
 abbrev pub digest_view : FileDigest → DigestView
-digest_view d = record { name = d.name.now; digest = d.digest }
+digest_view d = record { name = d.name.now; digest = d.digest; title = d.title }
 
--- the file's name, and the SHA-256 digest of the bytes that came of it, which are the text of its
--- kind
+-- the file's name, and of the bytes that came of it, which are the text of its kind, the SHA-256
+-- digest and the name that they give a controller
 pub record IsDigestOf (old : FilesSeen) (file : NamedFile) (d : DigestView) : Type 0 where
   pub same : d.name ≡ file.name
   pub content : Content file.kind
   pub came : CameOf (old.held file.name) (λ bytes. (length bytes ≤ limit_of (which_of file.kind))
-      × IsText file.kind bytes content × (d.digest ≡ sha256 bytes))
+      × IsText file.kind bytes content × (d.digest ≡ sha256 bytes)
+      × (d.title ≡ title_for file.kind bytes))
 
 -- those of these files, in their order
 abbrev pub AreDigests : FilesSeen → List NamedFile → List DigestView → Type 0

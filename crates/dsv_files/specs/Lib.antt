@@ -1,3 +1,4 @@
+pub mod Titles
 pub mod Digests
 pub mod FileBytes
 pub mod Files

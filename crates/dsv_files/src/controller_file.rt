@@ -5,8 +5,9 @@ ghost use Rattle.dsv_base.specs.Seen.{AreKept};
 ghost use Rattle.dsv_files.specs.Digests.{AreLogged, section_named};
 ghost use Rattle.dsv_files.specs.Files.{a_controller, IsFileOf, IsUnread};
 
-use crate::digests::{Digests, log_digest};
+use crate::digests::{Digests, log_titled};
 use crate::file_bytes::read_bytes;
+use crate::titles::title_of;
 use dsv_base::Files;
 use dsv_reader::{Controller, read};
 use dsv_report::{Stop, WhichFile};
@@ -32,7 +33,8 @@ pub(crate) fn read_controller<'a, F: Files>(
     let bytes = read_bytes(alloc, name, which, files)?;
     match read(alloc, bytes.as_slice()) {
         Ok(controller) => {
-            log_digest(digests, name, bytes.as_slice())?;
+            let title = title_of(alloc, bytes.as_slice())?;
+            log_titled(digests, name, bytes.as_slice(), title)?;
             Ok(controller)
         }
         Err(refusal) => Err(Stop::of_file(which, refusal)),

@@ -47,7 +47,7 @@ pub fn read_certificate<'a, F: Files>(
 {
     let bytes = read_bytes(alloc, name, WhichFile::Certificate, files)?;
     let certificate = dsv_certfile::read(alloc, bytes.as_slice())?;
-    log_digest(digests, name, bytes.as_slice())?;
+    log_digest(alloc, digests, name, bytes.as_slice())?;
     Ok(certificate)
 }
 
@@ -68,7 +68,7 @@ fn read_offer<'a, F: Files>(
 {
     let bytes = read_bytes(alloc, name, WhichFile::Certificate, files)?;
     let offer = read_ellipsoid(bytes.as_slice())?;
-    log_digest(digests, name, bytes.as_slice())?;
+    log_digest(alloc, digests, name, bytes.as_slice())?;
     Ok(offer)
 }
 

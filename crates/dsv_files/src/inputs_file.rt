@@ -28,6 +28,6 @@ pub(crate) fn read_inputs_file<'a, F: Files>(
 {
     let bytes = read_bytes(alloc, name, WhichFile::Inputs, files)?;
     let inputs = read_inputs(alloc, bytes.as_slice())?;
-    log_digest(digests, name, bytes.as_slice())?;
+    log_digest(alloc, digests, name, bytes.as_slice())?;
     Ok(inputs)
 }

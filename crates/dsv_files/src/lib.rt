@@ -10,6 +10,7 @@ mod plant_file;
 mod section_files;
 mod state_file;
 mod texts;
+mod titles;
 
 pub use digests::{Digests, FileDigest};
 pub use evidence::{Evidence, read_certificate, read_evidence};

@@ -30,7 +30,7 @@ pub(crate) fn read_plant_file<'a, F: Files>(
     let bytes = read_bytes(alloc, name, WhichFile::Plant, files)?;
     match read_plant(alloc, bytes.as_slice()) {
         Ok(plant) => {
-            log_digest(digests, name, bytes.as_slice())?;
+            log_digest(alloc, digests, name, bytes.as_slice())?;
             Ok(plant)
         }
         Err(refusal) => Err(Stop::of_file(WhichFile::Plant, refusal)),

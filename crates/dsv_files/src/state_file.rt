@@ -28,6 +28,6 @@ pub(crate) fn read_state_file<'a, F: Files>(
 {
     let bytes = read_bytes(alloc, name, WhichFile::Controller, files)?;
     let file = read_state(bytes.as_slice())?;
-    log_digest(digests, name, bytes.as_slice())?;
+    log_digest(alloc, digests, name, bytes.as_slice())?;
     Ok(file)
 }

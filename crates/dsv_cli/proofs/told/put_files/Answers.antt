@@ -6,4 +6,4 @@ use Rattle.dsv_cli.proofs.told.put_files.Goals as goal
 
 pub returns-in_err-put_file : goal.returns-in_err-put_file
 returns-in_err-put_file g c =
-    writes_err c.from_residual.ensures.0 (cut_item file_line [] c.args.digests.now c.loop-file.file-index _ (omega arith) c.loop-file.invariant c.in_err-put_file.ensures.cut)
+    writes_err c.from_residual.ensures.0 (cut_item file_line [] c.args.digests.now c.loop-file.file-index c.file-item.result (omega arith) c.loop-file.invariant (rw c.file-item.is at c.in_err-put_file.ensures.cut))

@@ -25,6 +25,6 @@ returns-in-Ok-clause-controller g c =
 pub returns-in-Ok-clause-digest : goal.returns-in-Ok-clause-digest
 returns-in-Ok-clause-digest g c =
     let controller = c.in-Ok.controller in
-    logged_one (g.F.Files.seen c.args.files.now) a_controller c.args.name.now c.in_ok-bytes.bytes controller c.args.digests.now c.log_digest.new.digests c.in_ok-bytes.ensures.whole
+    logged_one (g.F.Files.seen c.args.files.now) a_controller c.args.name.now c.in_ok-bytes.bytes controller c.args.digests.now c.log_titled.new.digests c.in_ok-bytes.ensures.whole
     (text_fits c.args.which c.requires c.in_ok-bytes.bytes c.in_ok-bytes.ensures.fits) (subst (λ bytes. IsTextOf bytes controller) c.as_slice.ensures c.in-Ok.ensures.text)
-    (rw c.as_slice-in-Ok.ensures at c.in_ok-log_digest-in-Ok.ensures)
+    (rw (c.as_slice-in-Ok-2.ensures, rw c.as_slice-in-Ok.ensures at c.in_ok-title-in-Ok.ensures) at c.in_ok-log_titled-in-Ok.ensures)
