@@ -215,10 +215,10 @@ wrap_returns f t v o wide h =
     (less ∙ ap (λ z. Some (c_value (wider_type t k) z)) back) (word_held f (wrapped_word n v) word)
 
 -- ---- the ends
-low_size : (n : ℕ) → unsigned_abs (lo n) ≤ 2 ^ (n - 1)
+pub low_size : (n : ℕ) → unsigned_abs (lo n) ≤ 2 ^ (n - 1)
 low_size n = within_size (2 ^ (n - 1)) (lo n) (record { low = omega (arith, ints); high = omega (arith, ints) })
 
-high_size : (n : ℕ) → unsigned_abs (hi n) ≤ 2 ^ (n - 1)
+pub high_size : (n : ℕ) → unsigned_abs (hi n) ≤ 2 ^ (n - 1)
 high_size n = let p = pow_pos (n - 1) in within_size (2 ^ (n - 1)) (hi n) (record { low = omega (arith, ints); high = omega (arith, ints) })
 
 -- the arms of a saturating choice

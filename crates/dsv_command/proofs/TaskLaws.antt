@@ -10,9 +10,9 @@ use Rattle.dsv_names.specs.declared.property.Property.TheVariants.{OfRuns, OfRoo
 use Rattle.dsv_names.specs.declared.realisation.Realisation.{Realisation}
 use Rattle.dsv_names.specs.declared.realisation.Realisation.TheVariants.{Dfi}
 use Rattle.dsv_command.specs.declared.kind.Kind.{Kind}
-use Rattle.dsv_command.specs.Finding.{task_if, is_stability, is_overflow, formula_task, plain_task, run_task, flag_task, ellipsoid_task, form_task, words_task, task_by, code_task, code_prefix, task_in, check_realisation, check_whole}
+use Rattle.dsv_command.specs.Finding.{task_if, is_stability, is_overflow, formula_task, plain_task, run_task, flag_task, ellipsoid_task, form_task, words_task, missing_task, task_by, code_task, code_prefix, task_in, check_realisation, check_whole}
 use Rattle.dsv_command.specs.Parts.{PartView, is_given, value_of}
-use Rattle.dsv_command.specs.Reasons.{Reason, no_task}
+use Rattle.dsv_command.specs.Reasons.{Reason}
 use Rattle.dsv_command.specs.Rules.{AreInputs, IsGivenAs, AreValues, HasOnly, IsTask}
 use Rattle.dsv_command.specs.Table.{Task, decides, checks_time, writes, searches, seeks_set, measures_gain, simulates, runs_file, tells_words, emits_code, emits_test, emits_file_test, checks_form, seeks_form, checks_ellipsoid, seeks_ellipsoid, task_options, all_task_options}
 use Rattle.dsv_command.specs.Values.{Values}
@@ -211,14 +211,14 @@ form_by parts v p t kind (Some name) e w k h =
     subst (IsTask parts v) i.1 (IsTask.named_form parts v name (e ∙ ap Some (stability_is p i.0)) k)
 form_by parts v p t kind None e w k h = ellipsoid_by parts v p t kind (value_of (codes "ellipsoid") parts) e w refl h
 
-alone_by : (parts : List PartView) (v : Values) (t : Task) (words : Bool) → is_given parts (codes "words") ≡ words
-    → (if words then Ok tells_words else Err no_task) ≡ Ok t → IsTask parts v t
-alone_by parts v t true e h = let same : tells_words ≡ t = cc in subst (IsTask parts v) same (IsTask.words_alone parts v e)
-alone_by parts v t false e h = absurd (cc)
+alone_by : (parts : List PartView) (v : Values) (t : Task) (words : Bool) (r : Reason) → is_given parts (codes "words") ≡ words
+    → (if words then Ok tells_words else Err r) ≡ Ok t → IsTask parts v t
+alone_by parts v t true r e h = let same : tells_words ≡ t = cc in subst (IsTask parts v) same (IsTask.words_alone parts v e)
+alone_by parts v t false r e h = absurd (cc)
 
 words_by : (parts : List PartView) (v : Values) (t : Task) (named : Option (List ℕ)) → value_of (codes "inputs") parts ≡ named → words_task parts named ≡ Ok t → IsTask parts v t
 words_by parts v t (Some name) e h = let same : runs_file name (is_given parts (codes "outputs")) ≡ t = cc in subst (IsTask parts v) same (IsTask.file_run parts v name e)
-words_by parts v t None e h = alone_by parts v t (is_given parts (codes "words")) refl h
+words_by parts v t None e h = alone_by parts v t (is_given parts (codes "words")) (missing_task parts) refl h
 
 given_by : (parts : List PartView) (v : Values) (t : Task) (kind : Kind) (property : Option Property) (inputs : Option (List ℤ)) → v.property ≡ property → v.inputs ≡ inputs
     → IsWhole parts v kind t → task_by parts v.numbers property inputs ≡ Ok t → IsTask parts v t

@@ -110,10 +110,16 @@ form_task parts numbers property (Some name) =
 form_task parts numbers property None =
     ellipsoid_task parts numbers property (value_of (codes "ellipsoid") parts)
 
+-- what is missing if nothing is asked: what writes C, if names in C are given
+abbrev pub missing_task : List PartView → Reason
+missing_task parts = if is_given parts (codes "c-name")
+    then wants (codes "c-name") (codes "emit-c") else no_task
+
 -- inputs in a file that is named, or else the words alone
 abbrev pub words_task : List PartView → Option (List ℕ) → Result Task Reason
 words_task parts (Some name) = Ok (runs_file name (is_given parts (codes "outputs")))
-words_task parts None = if is_given parts (codes "words") then Ok tells_words else Err no_task
+words_task parts None =
+    if is_given parts (codes "words") then Ok tells_words else Err (missing_task parts)
 
 -- either a property or inputs are given, or else one of those
 abbrev pub task_by : List PartView → Numbers → Option Property → Option (List ℤ)

@@ -8,7 +8,7 @@ ghost use Rattle.dsv_command.specs.Parts.{value_of, file_of};
 ghost use Rattle.dsv_command.specs.Finding.{check_cell, check_cell_whole};
 ghost use Rattle.dsv_command.specs.Finding.{check_certificate, check_in, check_job};
 ghost use Rattle.dsv_command.specs.Finding.{check_realisation, check_states, check_whole};
-ghost use Rattle.dsv_command.specs.Finding.{check_words, words_part, words_task};
+ghost use Rattle.dsv_command.specs.Finding.{check_words, missing_task, words_part, words_task};
 ghost use Rattle.dsv_command.specs.Finding.{checked_files, files_by};
 ghost use Rattle.dsv_command.specs.Finding.{first_other, flag_task, form_task, formula_task};
 ghost use Rattle.dsv_command.specs.Finding.{generation_in, is_incomplete, is_overflow};
@@ -237,6 +237,17 @@ fn property_task<'a>(
     }
 }
 
+/// What is missing if nothing is asked.
+fn missing_task<'a>(arguments: &Arguments<'a>) -> Reason<'a>
+    ensures { reason_view result ≡ missing_task arguments.now }
+{
+    if arguments.is_given("c-name") {
+        Reason::Wants("c-name", "emit-c")
+    } else {
+        Reason::NoTask
+    }
+}
+
 /// The task of inputs in a file that is named, or else that of the words alone.
 fn words_task<'a>(arguments: &Arguments<'a>) -> Result<Task<'a>, Reason<'a>>
     ensures { result_map_both task_view reason_view result
@@ -247,7 +258,7 @@ fn words_task<'a>(arguments: &Arguments<'a>) -> Result<Task<'a>, Reason<'a>>
     } else if arguments.is_given("words") {
         Ok(Task::TellWords)
     } else {
-        Err(Reason::NoTask)
+        Err(missing_task(arguments))
     }
 }
 
