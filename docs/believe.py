@@ -198,6 +198,9 @@ PAGE = (
      "What a report with `--words` says of the files and of the coefficients.",
      "AreLines AreLinesOf AreLinesOfCheck TellsWords told_by IsDigestOf named_by named_by_task dsv_word_lines:format_line dsv_word_lines:range_line is_cut "
      "coefficient_lines cascade_lines dsv_word_lines:state_lines cost_line inputs_in"),
+    ("The C of a controller", "What the C says that `--emit-c` writes, what it does, and of what verdicts speak.",
+     "IsOfCode IsOfCodeTest IsCodeOf dsv_code:remarks_of dsv_code:code_bytes dsv_c:program_of dsv_ctext:unit_text test_text code_results members_after_init "
+     "IsCodable IsWideValue members_of origin_of TellsTitle title_in VerdictsSpeakOfCode IsCodeOfWords"),
     ("Proposers", "What becomes of the lists of objects that offer forms and sets.",
      "IsAsked AreSetsAsked Wants Decides AsksSchurCohn Seeks IfNoForm is_low"),
     ("Four laws over the table", "What holds of all answers together.",
@@ -205,6 +208,9 @@ PAGE = (
 )
 # Laws of other crates that say what a definition of the page means.
 LAWS_BESIDE = {
+    "dsv_ctext:unit_text": "`subjects_are_read_back` (`dsv_c_reading`) says that its bytes are read as C's tokens, and these as that program, and "
+                           "nothing else (`unit_in`).",
+    "code_results": "`code_runs_as_its_subject` (`dsv_code`) says that they are the outputs of the written equations.",
     "dsv_loop:loop_of": "`loop_is_its_recursion` (`dsv_loop`) says what it is to the signals in the loop, both ways, and "
                         "`runs_meet_the_transfer_function` (`dsv_transfer`) that exact runs have the coefficients that it is made of.",
     "tested_of": "`runs_meet_the_transfer_function` (`dsv_transfer`) says that exact runs of the written equations meet its coefficients.",
