@@ -1,6 +1,6 @@
 // What is found of runs of cascades of any length: ranges beside those of a model that sums the
 // forms of the operations of both sections, and lists that break, by hand.
-use crate::sections::{GAIN, HALF, PAIR, Section, WIDE_HALF, cascade_of};
+use crate::sections::{GAIN, HALF, INTEGRATOR, PAIR, Section, WIDE_HALF, cascade_of};
 use dsv_gain::{Outlook, driven, gain};
 use dsv_linear::Range;
 use dsv_meaning::Trace;
@@ -61,28 +61,28 @@ const WIDE_7: Section = Section {
     ..WIDE_HALF
 };
 
-const OUTLOOKS: [Outlooked; 5] = [
+const OUTLOOKS: [Outlooked; 6] = [
     Outlooked {
         sections: &[HALF_6, PAIR_6],
         limit: 64,
         wanted: Wanted::Safe(
-            2,
+            1,
             6,
             &[
                 (-8, 8),
                 (0, 0),
+                (-8, 8),
                 (-9, 8),
-                (-9, 9),
-                (-19, 17),
-                (-10, 8),
+                (-17, 17),
+                (-9, 8),
                 (0, 0),
-                (-11, 8),
+                (-9, 8),
                 (0, 0),
-                (-12, 8),
-                (-8, 9),
-                (-21, 17),
-                (-5, 3),
-                (-18, 15),
+                (-9, 8),
+                (-8, 6),
+                (-16, 17),
+                (-4, 3),
+                (-13, 14),
             ],
         ),
     },
@@ -94,19 +94,19 @@ const OUTLOOKS: [Outlooked; 5] = [
             9,
             &[
                 (-8, 8),
-                (-18, 18),
+                (-17, 17),
                 (0, 0),
                 (-9, 9),
-                (-10, 10),
                 (-9, 9),
-                (-16, 16),
+                (-9, 9),
+                (-14, 14),
                 (0, 0),
-                (-8, 8),
-                (-9, 9),
                 (-7, 7),
+                (-7, 7),
+                (-5, 5),
                 (0, 0),
                 (-4, 4),
-                (-5, 5),
+                (-4, 4),
             ],
         ),
     },
@@ -117,13 +117,37 @@ const OUTLOOKS: [Outlooked; 5] = [
     },
     Outlooked {
         sections: &[HALF_6, PAIR_6],
-        limit: 2,
+        limit: 1,
         wanted: Wanted::Deep,
     },
     Outlooked {
         sections: &[HALF, PAIR],
         limit: 64,
-        wanted: Wanted::Leaves(3, 11),
+        wanted: Wanted::Safe(
+            2,
+            5,
+            &[
+                (-2, 2),
+                (0, 0),
+                (-2, 2),
+                (-3, 2),
+                (-5, 5),
+                (-3, 2),
+                (0, 0),
+                (-3, 2),
+                (0, 0),
+                (-3, 2),
+                (-3, 2),
+                (-6, 6),
+                (-2, 1),
+                (-5, 6),
+            ],
+        ),
+    },
+    Outlooked {
+        sections: &[HALF, INTEGRATOR],
+        limit: 64,
+        wanted: Wanted::Leaves(2, 9),
     },
 ];
 

@@ -42,7 +42,7 @@ use Rattle.dsv_report.specs.declared.answers.Answer.TheVariants as answer
 use Rattle.dsv_report.specs.declared.answers.OutputError.{OutputError}
 use Rattle.dsv_roundoff.specs.declared.offers.RoundoffOffer.{RoundoffOffer}
 use Rattle.dsv_gain.specs.declared.outlook.Gain.{Gain}
-use Rattle.dsv_gain.proofs.Depths.{gains_again, gain_below}
+use Rattle.dsv_gain.proofs.GainLaws.{gains_again, gain_within}
 use Rattle.dsv_realise.specs.Netlists.{net_of}
 use Rattle.dsv_cli.specs.Gain.{most_gain_samples, IsErrorOf}
 use Rattle.dsv_gain.specs.Subjects.{IsGainOf}
@@ -145,9 +145,9 @@ module _ (d : ControllerView) (q : QuantisedView) (design : Design) (words : Cer
 
   gain_fits : (gain : Gain) (found : OutputError) → IsGainOf most_gain_samples (of_controller q) gain → IsErrorOf q found → IsTyped (gain_for gain.depth (offer_in found)) → IsAcceptable (PassesFor d None) (gain_for gain.depth (offer_in found))
   gain_fits gain found k e t =
-      let below = gain_below (net_of q) q.xlo q.xhi most_gain_samples gain k.found in
+      let within = gain_within (net_of q) q.xlo q.xhi most_gain_samples gain k.found in
       let again = gains_again (net_of q) q.xlo q.xhi most_gain_samples gain k.found in
-      let deep : gain.depth ≤ most_gain_depth = omega (arith, below) in
+      let deep : gain.depth ≤ most_gain_depth = omega (arith, within.0, within.1) in
       record {
         passes = passes_for d None (gain_for gain.depth (offer_in found)) q said becomes (gain_passes words q gain.depth (offer_in found) again.0 deep again.1 (offer_passes words q found e));
         lawful = gain_is_lawful (made design words (OfRuns Overflow) size.Unbounded) gain.depth (offer_in found) refl t deep (offer_lawful q found e);

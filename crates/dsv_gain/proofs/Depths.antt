@@ -1,5 +1,5 @@
--- A gain is found again by as many samples as its depth, and one more.
-use Rattle.std.proofs.Common.{◌≡◌, sym, ℕ, zero, suc, ◌+◌, ◌<◌, ◌≤◌, Bool, true, false, arith, List, length, refl, ap}
+-- The gain of the first pass is found again by as many samples as its depth, and one more.
+use Rattle.std.proofs.Common.{◌≡◌, ℕ, zero, suc, ◌+◌, ◌≤◌, Bool, true, false, arith, List, length, refl, ap}
 use Rattle.std.specs.Prelude.{Option, Some, None}
 use Rattle.std.proofs.Math.IntN.{ℤ}
 use Rattle.dsv_netlist.specs.Nodes.{Net}
@@ -13,9 +13,8 @@ use Rattle.dsv_gain.specs.declared.ends.Ends.{Ends}
 use Rattle.dsv_gain.specs.declared.ends.Ends.TheVariants as shown
 use Rattle.dsv_gain.specs.declared.search.Search.{Search}
 use Rattle.dsv_gain.specs.Samples.{pass_ends, after_pass}
-use Rattle.dsv_gain.specs.Gains.{hulls, hulls_after, has_settled, best_or, gain_at, search, step_turn, run_turn, turn_outlook, gain_from, word_pass, gain_of}
-use Rattle.dsv_gain.specs.Safe.{GainsAreFoundAgain}
-use Rattle.dsv_gain.proofs.Gains.{same_gain, answer_within}
+use Rattle.dsv_gain.specs.Gains.{hulls, hulls_after, has_settled, best_or, gain_at, search, step_turn, run_turn, turn_outlook, gain_from, word_pass, first_gain}
+use Rattle.dsv_gain.proofs.Gains.{same_gain}
 
 -- ---- how deep
 -- a gain has the depth of the best so far, or one from this sample on
@@ -58,7 +57,7 @@ deep_from nodes next (suc left) sample s gain h =
     run_deep nodes next sample (gain_from nodes next left (suc sample)) s (pass_ends (length next) nodes s.pass) gain (λ l q. deep_from nodes next left (suc sample) l gain q) h
 
 -- ---- found again
-abbrev IsSafe : Outlook → Type 0
+abbrev pub IsSafe : Outlook → Type 0
 IsSafe found = (g : Gain) × (found ≡ outlook.Safe g)
 
 -- before anything was found
@@ -109,11 +108,7 @@ again_from nodes next (suc left) sample (suc k) pass seen gain e h =
     (λ s q. deep_from nodes next left (suc sample) s gain q) (λ s f. last_of nodes next sample k gain s e f)
     (λ p all q. again_from nodes next left (suc sample) k p (Some all) gain (omega (arith, e)) q) h
 
-pub gains_again : GainsAreFoundAgain
-unfolding gain_of
-gains_again net low high limit gain h =
+pub first_found_again : (net : Net) (low high : ℤ) (limit : ℕ) (gain : Gain) → first_gain net low high limit ≡ outlook.Safe gain → IsSafe (first_gain net low high (suc gain.depth))
+unfolding first_gain
+first_found_again net low high limit gain h =
     again_from net.nodes net.next limit 0 (suc gain.depth) (word_pass net low high) None gain (omega arith) h
-
--- the depth is below the limit
-pub gain_below : (net : Net) (low high : ℤ) (limit : ℕ) (gain : Gain) → gain_of net low high limit ≡ outlook.Safe gain → gain.depth < limit
-gain_below net low high limit gain h = let w = answer_within net low high limit (outlook.Safe gain) (sym h) in let l = w.0 in let m = w.1 in omega (arith, l, m)

@@ -1,6 +1,6 @@
 -- From a netlist to whatever agrees with it: what is found of a netlist's runs of any length is so of
 -- a controller's written equations, of a cascade, or of whatever else the netlist is made of.
-use Rattle.std.proofs.Common.{◌≡◌, ℕ, List, sym, subst}
+use Rattle.std.proofs.Common.{◌≡◌, List, sym, subst}
 use Rattle.std.specs.Prelude.{Result, Ok, Err, IfOk}
 use Rattle.std.specs.List.{All}
 use Rattle.std.proofs.Math.IntN.{ℤ}
@@ -8,13 +8,12 @@ use Rattle.dsv_base.specs.declared.NoMemory.{NoMemory}
 use Rattle.dsv_word.specs.declared.format.Format.{Format}
 use Rattle.dsv_system.specs.Runs.{SampleRow}
 use Rattle.dsv_system.specs.Systems.{Behaviour, Agree, zeros}
-use Rattle.dsv_netlist.specs.Nodes.{Net}
 use Rattle.dsv_linear.specs.declared.range.Range.{Range}
 use Rattle.dsv_system.proofs.Agreeing.{agree_back, breaks_agree, zero_rows}
 use Rattle.dsv_gain.specs.declared.outlook.Gain.{Gain}
 use Rattle.dsv_gain.specs.declared.outlook.Outlook.{Outlook}
 use Rattle.dsv_gain.specs.declared.outlook.Outlook.TheVariants as outlook
-use Rattle.dsv_gain.specs.Safe.{LieWithin, HoldsBy, NeverBy, HoldInRuns, NeverBreaks, IfSafe}
+use Rattle.dsv_gain.specs.Safe.{LieWithin, HoldsBy, NeverBy, IfSafe}
 
 -- ---- behaviours that agree
 pub holds_agree : (b c : Behaviour) (low high : ℤ) (ranges : List Range) → Agree b c → HoldsBy b low high ranges → HoldsBy c low high ranges

@@ -1,16 +1,19 @@
 -- The sample that comes as many samples as the depth after any words in the registers.
-use Rattle.std.proofs.Common.{◌≡◌, ℕ, zero, suc, ◌+◌, ◌<◌, ◌≤◌, Bool, true, false, arith, List, [], ◌∷◌, length, take, refl, sym, subst, ap}
+use Rattle.std.proofs.Common.{◌≡◌, ℕ, zero, suc, ◌+◌, Bool, true, false, arith, List, [], ◌∷◌, length, take, refl, sym, subst, ap}
 use Rattle.std.specs.Prelude.{Option, Some, None}
 use Rattle.std.specs.List.{All}
 use Rattle.std.proofs.Math.IntN.{ℤ, pos}
 use Rattle.std.proofs.lemmas.List.Elements.{All-head, All-tail, All-nil, All-cons}
 use Rattle.dsv_word.specs.Words.{IsWord}
 use Rattle.dsv_system.specs.Breaks.{IsInside}
-use Rattle.dsv_system.specs.Runs.{SampleRow, row_at, rows_from}
+use Rattle.dsv_system.specs.Systems.{AreInRange}
+use Rattle.dsv_system.specs.Runs.{row_at, rows_from}
 use Rattle.dsv_netlist.specs.Nodes.{Net, sample_of, step_of}
+use Rattle.dsv_netlist.specs.Conditions.{IsNetlist}
 use Rattle.dsv_linear.specs.declared.range.Range.{Range}
 use Rattle.dsv_linear.proofs.Runs.{all_between}
 use Rattle.dsv_gain.specs.declared.pass.Pass.{Pass}
+use Rattle.dsv_roundoff.specs.Differences.{multiples_of}
 use Rattle.dsv_gain.specs.declared.pass.Quantity.TheVariants as quantity
 use Rattle.dsv_gain.specs.declared.outlook.Gain.{Gain}
 use Rattle.dsv_gain.specs.declared.outlook.Outlook.{Outlook}
@@ -19,8 +22,8 @@ use Rattle.dsv_gain.specs.declared.ends.Ends.{Ends}
 use Rattle.dsv_gain.specs.declared.ends.Ends.TheVariants as shown
 use Rattle.dsv_gain.specs.declared.search.Search.{Search}
 use Rattle.dsv_gain.specs.Samples.{ranges_in, pass_ends, after_pass}
-use Rattle.dsv_gain.specs.Gains.{hulls, hulls_after, has_settled, best_or, gain_at, search, step_turn, run_turn, turn_outlook, gain_from, word_pass, first_search, gain_of}
-use Rattle.dsv_gain.specs.Safe.{DepthsForgetStarts}
+use Rattle.dsv_gain.specs.Gains.{hulls, hulls_after, has_settled, gain_at, search, step_turn, run_turn, turn_outlook, gain_from, word_pass, first_gain}
+use Rattle.dsv_gain.specs.Safe.{AreRegisters, AreInsideFor}
 use Rattle.dsv_gain.proofs.Given.{fitted_in}
 use Rattle.dsv_gain.proofs.WordRuns.{values_over, run_given, exact_is}
 use Rattle.dsv_gain.proofs.Values.{lie_fits}
@@ -69,8 +72,8 @@ shows_from net (suc left) sample pass seen gain h =
     run_shows net sample (gain_from net.nodes net.next left (suc sample)) pass seen (pass_ends (length net.next) net.nodes pass) gain
     (λ s q. deep_from net.nodes net.next left (suc sample) s gain q) (λ p all q. shows_from net left (suc sample) p (Some all) gain q) h
 
-depth_shows : (net : Net) (low high : ℤ) (limit : ℕ) (gain : Gain) → gain_of net low high limit ≡ outlook.Safe gain → (last : List Range) × (later_words 0 net gain.depth (word_pass net low high) ≡ Some last)
-unfolding gain_of
+depth_shows : (net : Net) (low high : ℤ) (limit : ℕ) (gain : Gain) → first_gain net low high limit ≡ outlook.Safe gain → (last : List Range) × (later_words 0 net gain.depth (word_pass net low high) ≡ Some last)
+unfolding first_gain
 depth_shows net low high limit gain h =
     let s = shows_from net limit 0 (word_pass net low high) None gain h in
     let d = s.deep in
@@ -105,10 +108,11 @@ rows_inside net words (x ∷ xs) (suc n) a =
     (rows_inside net step.past xs n (All-tail (AreFitted net) values rest a))
 
 -- ---- the law
-pub depths_forget : DepthsForgetStarts
-depths_forget net low high limit gain n l h e registers xs r a inside =
+pub first_forgets : (net : Net) (low high : ℤ) (limit : ℕ) (gain : Gain) → IsNetlist net → IsWord net.format low → IsWord net.format high → first_gain net low high limit ≡ outlook.Safe gain
+    → (registers xs : List ℤ) → AreRegisters net low high registers → AreInRange low high xs → AreInsideFor net registers xs gain.depth → AreInsideFor net registers xs (suc gain.depth)
+first_forgets net low high limit gain n l h e registers xs r a inside =
     let one = pos 1 in
-    let g = quantity.Words in
+    let g = quantity.Words (multiples_of net.format net.nodes) in
     let s = depth_shows net low high limit gain e in
     rows_inside net registers xs (suc gain.depth)
     (next_has 0 net g one low high (AreFitted net) gain.depth xs (values_over net registers xs) (word_pass net low high) registers s.0 (all_between low high xs a) (λ values q. q)

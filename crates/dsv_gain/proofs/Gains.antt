@@ -1,11 +1,11 @@
 -- The ranges of a gain hold in every run.
 use Rattle.std.proofs.Common.{◌≡◌, ℕ, zero, suc, ◌+◌, ◌<◌, ◌≤◌, inl, inr, ◌⊎◌, Bool, true, false, arith, zero-add, List, [], ◌∷◌, length, take, refl, sym, subst, ap, ◌∙◌}
-use Rattle.std.specs.Prelude.{Option, Some, None, IfSome, Result, Ok, Err, IfOk}
+use Rattle.std.specs.Prelude.{Option, Some, None, IfSome}
 use Rattle.std.specs.List.{All}
 use Rattle.std.proofs.Math.IntN.{ℤ, pos}
 use Rattle.std.proofs.lemmas.Int.{ints}
 use lib.Signed.{◌≤ℤ◌}
-use Rattle.std.proofs.lemmas.List.Elements.{All-head, All-tail, All-nil, All-cons, All-weaker}
+use Rattle.std.proofs.lemmas.List.Elements.{All-head, All-tail, All-weaker}
 use Rattle.dsv_word.specs.Words.{IsWord}
 use Rattle.dsv_system.specs.Runs.{SampleRow, rows_from}
 use Rattle.dsv_system.specs.Systems.{zeros}
@@ -14,11 +14,11 @@ use Rattle.dsv_system.proofs.Words.{no_break}
 use Rattle.dsv_netlist.specs.Nodes.{Net, at, step_of}
 use Rattle.dsv_netlist.specs.Conditions.{IsNetlist}
 use Rattle.dsv_netlist.specs.declared.node.Node.{Node}
-use Rattle.dsv_base.specs.declared.NoMemory.{NoMemory}
 use Rattle.dsv_linear.specs.Facts.{Between}
 use Rattle.dsv_linear.specs.declared.range.Range.{Range}
 use Rattle.dsv_linear.specs.Forms.{◌>>=◌}
 use Rattle.dsv_linear.proofs.Runs.{all_between}
+use Rattle.dsv_roundoff.specs.Differences.{multiples_of}
 use Rattle.dsv_gain.specs.declared.pass.Quantity.TheVariants as quantity
 use Rattle.dsv_gain.specs.declared.pass.Pass.{Pass}
 use Rattle.dsv_gain.specs.declared.outlook.Gain.{Gain}
@@ -28,18 +28,19 @@ use Rattle.dsv_gain.specs.declared.ends.Ends.{Ends}
 use Rattle.dsv_gain.specs.declared.ends.Ends.TheVariants as shown
 use Rattle.dsv_gain.specs.declared.search.Search.{Search}
 use Rattle.dsv_gain.specs.Samples.{ranges_in, pass_ends, after_pass}
-use Rattle.dsv_gain.specs.Gains.{hulls, hulls_after, has_settled, best_or, gain_at, search, step_turn, run_turn, turn_outlook, gain_from, word_pass, first_search, gain_of}
+use Rattle.dsv_gain.specs.Gains.{hulls, hulls_after, has_settled, best_or, gain_at, search, step_turn, run_turn, turn_outlook, gain_from, word_pass, first_search, first_gain}
 use Rattle.dsv_gain.proofs.Given.{fitted_in, RunsGiven}
 use Rattle.dsv_gain.proofs.WordRuns.{values_over, run_given, rows_lie}
-use Rattle.dsv_gain.specs.Safe.{AreRegisters, LieWithin, HoldInRuns, NeverBreaks, IfSafe, IsWithin, GainsAreSafe}
+use Rattle.dsv_gain.specs.Safe.{AreRegisters, LieWithin, HoldInRuns, NeverBreaks, IsWithin}
 use Rattle.dsv_gain.proofs.Values.{lie_words, lie_fits}
-use Rattle.dsv_gain.proofs.Hulls.{pass_words, hulls_left, hulls_right, run_ends, later_words, run_are, after_are}
+use Rattle.dsv_gain.proofs.Hulls.{pass_words, hulls_left, hulls_right, run_ends, run_are, after_are}
 use Rattle.dsv_gain.proofs.Passes.{LiesIn, run_lies, next_has, all_have}
+use Rattle.dsv_gain.proofs.BoxRuns.{IsPassed, front_part}
 use Rattle.dsv_gain.proofs.Pasts.{zeros_registers, step_registers}
 use Rattle.dsv_gain.proofs.Symbols.{words_stand}
 
 -- ---- what the search finds
-none_some : (gain : Gain) → None ≡ Some gain → ⊥
+pub none_some : (gain : Gain) → None ≡ Some gain → ⊥
 none_some gain e = cc
 
 some_same : (g gain : Gain) → Some g ≡ Some gain → g ≡ gain
@@ -52,24 +53,22 @@ best_cases other (Some g) gain n h = let same : g ≡ gain = cc in ap (λ (x : G
 
 -- the pass has ranges of words after so many samples, for runs from registers of zeros, where the
 -- start's symbols are 0, and after any words in the registers
-record Finds (net : Net) (pass : Pass) (seen : Option (List Range)) (gain : Gain) : Type 0 where
-  samples : ℕ
-  all : List Range
-  last : List Range
-  run_is : run_ends (length net.next) net samples pass seen ≡ Some all
-  step_is : later_words 0 net samples pass ≡ Some last
-  ranges_are : hulls all last ≡ gain.ranges
+pub record Finds (net : Net) (pass : Pass) (seen : Option (List Range)) (gain : Gain) : Type 0 where
+  pub samples : ℕ
+  pub shown : IsPassed net samples pass seen gain.ranges
 
 -- one sample before
 later : (net : Net) (pass : Pass) (seen : Option (List Range)) (now : List Range) (gain : Gain) → pass_words (length net.next) net.nodes pass ≡ Some now
     → Finds net (after_pass net.nodes net.next pass) (Some (hulls_after seen now)) gain → Finds net pass seen gain
 later net pass seen now gain e h = record {
   samples = suc h.samples;
-  all = h.all;
-  last = h.last;
-  run_is = ap (λ (o : Option (List Range)). o >>= λ rs. run_ends (length net.next) net h.samples (after_pass net.nodes net.next pass) (Some (hulls_after seen rs))) e ∙ h.run_is;
-  step_is = h.step_is;
-  ranges_are = h.ranges_are;
+  shown = record {
+    all = h.shown.all;
+    last = h.shown.last;
+    run_is = ap (λ (o : Option (List Range)). o >>= λ rs. run_ends (length net.next) net h.samples (after_pass net.nodes net.next pass) (Some (hulls_after seen rs))) e ∙ h.shown.run_is;
+    step_is = h.shown.step_is;
+    ranges_are = h.shown.ranges_are;
+  };
 }
 
 ranges_at : (sample : ℕ) (best : Option Gain) (ranges : List Range) → (gain_at sample best ranges).ranges ≡ ranges
@@ -81,11 +80,13 @@ here : (net : Net) (pass : Pass) (seen : Option (List Range)) (now last : List R
     → gain_at sample best (hulls (hulls_after seen now) last) ≡ gain → Finds net pass seen gain
 here net pass seen now last sample best gain e p h = record {
   samples = 0;
-  all = hulls_after seen now;
-  last = last;
-  run_is = ap (λ (o : Option (List Range)). o >>= λ rs. Some (hulls_after seen rs)) e;
-  step_is = p;
-  ranges_are = sym (ranges_at sample best (hulls (hulls_after seen now) last)) ∙ ap (λ (x : Gain). x.ranges) h;
+  shown = record {
+    all = hulls_after seen now;
+    last = last;
+    run_is = ap (λ (o : Option (List Range)). o >>= λ rs. Some (hulls_after seen rs)) e;
+    step_is = p;
+    ranges_are = sym (ranges_at sample best (hulls (hulls_after seen now) last)) ∙ ap (λ (x : Gain). x.ranges) h;
+  };
 }
 
 -- it was the best so far, or is found from here on
@@ -118,17 +119,11 @@ run_finds net sample next s (shown.Leaves value) gain p rest h = inl (best_cases
 run_finds net sample next s (shown.Words now) gain p rest h =
     step_finds net (has_settled net.nodes (after_pass net.nodes net.next s.pass)) sample next s.pass s.seen now s.best (pass_ends 0 net.nodes s.pass) gain (ap ranges_in p) refl rest h
 
-finds : (net : Net) (left sample : ℕ) (s : Search) (gain : Gain) → gain_from net.nodes net.next left sample s ≡ outlook.Safe gain → FindsOr net s.pass s.seen s.best gain
+pub finds : (net : Net) (left sample : ℕ) (s : Search) (gain : Gain) → gain_from net.nodes net.next left sample s ≡ outlook.Safe gain → FindsOr net s.pass s.seen s.best gain
 finds net zero sample s gain h = inl (best_cases outlook.Deep s.best gain (λ q. absurd cc) h)
 finds net (suc left) sample s gain h = run_finds net sample (gain_from net.nodes net.next left (suc sample)) s (pass_ends (length net.next) net.nodes s.pass) gain refl (λ l q. finds net left (suc sample) l gain q) h
 
 -- ---- the induction
-pub front_part : {X : Type 0} (P : X → Type 0) (n : ℕ) (xs : List X) → All P (take (suc n) xs) → All P (take n xs)
-front_part P zero [] a = All-nil P
-front_part P (suc n) [] a = All-nil P
-front_part P zero (x ∷ xs) a = All-nil P
-front_part P (suc n) (x ∷ xs) a = All-cons P x (take n xs) (All-head P x (take (suc n) xs) a) (front_part P n xs (All-tail P x (take (suc n) xs) a))
-
 -- the words of registers of zeros are 0
 zero_at : (m j : ℕ) → at (zeros m) j ≡ pos 0
 zero_at zero j = refl
@@ -155,15 +150,17 @@ run_next net low high values samples n l h words (x ∷ xs) a r e = record {
 }
 
 found_safe : (net : Net) (low high : ℤ) (gain : Gain) → IsNetlist net → IsWord net.format low → IsWord net.format high → Finds net (word_pass net low high) None gain → HoldInRuns net low high gain.ranges
-found_safe net low high gain n l h d xs a =
+found_safe net low high gain n l h found xs a =
+    let d = found.shown in
+    let samples_to = found.samples in
     let f = net.format in
-    let g = quantity.Words in
+    let g = quantity.Words (multiples_of f net.nodes) in
     let one = pos 1 in
     let up : pos 0 ≤ℤ one = omega (arith, ints) in
     let pass = word_pass net low high in
     let count = length net.next in
-    let first = run_are count net d.samples pass None d.all refl tt d.run_is in
-    let last = after_are 0 net d.samples pass d.last refl d.step_is in
+    let first = run_are count net samples_to pass None d.all refl tt d.run_is in
+    let last = after_are 0 net samples_to pass d.last refl d.step_is in
     let long : length d.all ≡ length d.last = first.many ∙ sym last.many in
     let all = hulls d.all d.last in
     let Q = LiesIn net one all in
@@ -172,27 +169,27 @@ found_safe net low high gain n l h d xs a =
     let samples = values_over net start xs in
     let inputs = all_between low high xs a in
     let registers = zeros_registers net low high n in
-    let lies = run_lies count net g one low high d.samples xs samples pass start None d.all refl inputs tt d.run_is (run_given net start xs) (words_stand count net low high start n registers (omega arith) (λ j p. zero_at count j)) in
-    let begun = All-weaker (LiesIn net one d.all) Q (λ values q. hulls_left one f d.all d.last (fitted values) up long q last.words) (take (suc d.samples) samples) lies in
-    let always = all_have (IsRun net low high) Q d.samples
+    let lies = run_lies count net g one low high samples_to xs samples pass start None d.all refl inputs tt d.run_is (run_given net start xs) (words_stand count net low high start n registers (omega arith) (λ j p. zero_at count j)) in
+    let begun = All-weaker (LiesIn net one d.all) Q (λ values q. hulls_left one f d.all d.last (fitted values) up long q last.words) (take (suc samples_to) samples) lies in
+    let always = all_have (IsRun net low high) Q samples_to
     (λ values rest r q. run_next net low high values rest n l h r.words r.xs r.in_range r.registers r.are)
-    (λ rest r q. next_has 0 net g one low high Q d.samples r.xs rest pass r.words d.last r.in_range
+    (λ rest r q. next_has 0 net g one low high Q samples_to r.xs rest pass r.words d.last r.in_range
     (λ values p. lie_fits g one f all (fitted values) refl p) (λ values p. hulls_right one f d.all d.last (fitted values) up long first.words p) d.step_is
     (subst (λ (v : List (List ℤ)). RunsGiven net g one r.words r.xs v) (sym r.are) (run_given net r.words r.xs))
     (words_stand 0 net low high r.words n r.registers (omega arith) (λ j p. absurd (omega arith))) q)
-    samples (record { words = start; xs = xs; in_range = inputs; registers = registers; are = refl }) (front_part Q d.samples samples begun) in
+    samples (record { words = start; xs = xs; in_range = inputs; registers = registers; are = refl }) (front_part Q samples_to samples begun) in
     subst (λ (rs : List Range). All (λ r. LieWithin f rs r.exact) (rows_from (step_of net) start xs)) d.ranges_are (rows_lie net all start xs always)
 
-pub gains_safe : GainsAreSafe
-unfolding gain_of
-gains_safe net low high limit gain n l h e =
+pub first_safe : (net : Net) (low high : ℤ) (limit : ℕ) (gain : Gain) → IsNetlist net → IsWord net.format low → IsWord net.format high → first_gain net low high limit ≡ outlook.Safe gain → HoldInRuns net low high gain.ranges
+unfolding first_gain
+first_safe net low high limit gain n l h e =
     elim (finds net limit 0 (first_search net low high) gain e) [
       | inl q ↦ absurd (none_some gain q)
       | inr d ↦ found_safe net low high gain n l h d
     ]
 
 -- where each exact value lies in a range of words, nothing breaks
-none_breaks : (net : Net) (low high : ℤ) (ranges : List Range) → HoldInRuns net low high ranges → NeverBreaks net low high
+pub none_breaks : (net : Net) (low high : ℤ) (ranges : List Range) → HoldInRuns net low high ranges → NeverBreaks net low high
 none_breaks net low high ranges h xs b =
     let rs = rows_from (step_of net) (zeros (length net.next)) xs in
     no_break net.format rs (All-weaker (λ (r : SampleRow). LieWithin net.format ranges r.exact) (IsInside net.format) (λ r l. lie_words net.format ranges r.exact l) rs (h xs b.in_range)) b.broken
@@ -234,32 +231,6 @@ within_from nodes next zero sample n s gain e b h = best_within sample n s.best 
 within_from nodes next (suc left) sample n s gain e b h =
     run_within nodes next sample n (gain_from nodes next left (suc sample)) s (pass_ends (length next) nodes s.pass) gain (omega arith) b (λ l c q. within_from nodes next left (suc sample) n l gain (omega arith) c q) h
 
--- ---- what the code gives
-gain_holds : (net : Net) (low high : ℤ) (limit : ℕ) (g : Outlook) → IsNetlist net → IsWord net.format low → IsWord net.format high → g ≡ gain_of net low high limit → IfSafe g (λ gain. HoldInRuns net low high gain.ranges)
-gain_holds net low high limit (outlook.Leaves sample value) n l h e = tt
-gain_holds net low high limit outlook.Deep n l h e = tt
-gain_holds net low high limit (outlook.Safe gain) n l h e = gains_safe net low high limit gain n l h (sym e)
-
-pub made_holds : (net : Net) (low high : ℤ) (limit : ℕ) (o : Result Outlook NoMemory) → IsNetlist net → IsWord net.format low → IsWord net.format high → IfOk o (λ g. g ≡ gain_of net low high limit)
-    → IfOk o (λ g. IfSafe g (λ gain. HoldInRuns net low high gain.ranges))
-made_holds net low high limit (Err e) n l h f = f
-made_holds net low high limit (Ok g) n l h f = gain_holds net low high limit g n l h f
-
-gain_safe : (net : Net) (low high : ℤ) (g : Outlook) → IfSafe g (λ gain. HoldInRuns net low high gain.ranges) → IfSafe g (λ gain. NeverBreaks net low high)
-gain_safe net low high (outlook.Leaves sample value) h = tt
-gain_safe net low high outlook.Deep h = tt
-gain_safe net low high (outlook.Safe gain) h = none_breaks net low high gain.ranges h
-
-pub holds_safe : (net : Net) (low high : ℤ) (o : Result Outlook NoMemory) → IfOk o (λ g. IfSafe g (λ gain. HoldInRuns net low high gain.ranges)) → IfOk o (λ g. IfSafe g (λ gain. NeverBreaks net low high))
-holds_safe net low high (Err e) h = h
-holds_safe net low high (Ok g) h = gain_safe net low high g h
-
-pub answer_within : (net : Net) (low high : ℤ) (limit : ℕ) (g : Outlook) → g ≡ gain_of net low high limit → IfSafe g (IsWithin limit)
-unfolding gain_of
-answer_within net low high limit (outlook.Leaves sample value) e = tt
-answer_within net low high limit outlook.Deep e = tt
-answer_within net low high limit (outlook.Safe gain) e = within_from net.nodes net.next limit 0 limit (first_search net low high) gain (zero-add limit) tt (sym e)
-
-pub made_within : (net : Net) (low high : ℤ) (limit : ℕ) (o : Result Outlook NoMemory) → IfOk o (λ g. g ≡ gain_of net low high limit) → IfOk o (λ g. IfSafe g (IsWithin limit))
-made_within net low high limit (Err e) f = f
-made_within net low high limit (Ok g) f = answer_within net low high limit g f
+pub first_within : (net : Net) (low high : ℤ) (limit : ℕ) (gain : Gain) → first_gain net low high limit ≡ outlook.Safe gain → IsWithin limit gain
+unfolding first_gain
+first_within net low high limit gain e = within_from net.nodes net.next limit 0 limit (first_search net low high) gain (zero-add limit) tt e

@@ -14,12 +14,12 @@ use Rattle.dsv_gain.specs.Samples.{errors_of}
 
 -- what the numbers are over
 abbrev pub IsOver : Quantity → ℤ → Type 0
-IsOver quantity.Words over = over ≡ pos 1
+IsOver (quantity.Words multiples) over = over ≡ pos 1
 IsOver (quantity.Differences multiples) over = pos 0 <ℤ over
 
 -- fitting changes nothing of such a number
 abbrev pub Fits : Format → Quantity → ℤ → Type 0
-Fits f quantity.Words v = IsWord f v
+Fits f (quantity.Words multiples) v = IsWord f v
 Fits f (quantity.Differences multiples) v = Unit {0}
 
 -- a node gives w, where these are the numbers of the registers and of the nodes before it, and x is the input

@@ -13,11 +13,16 @@ mod Passes
 mod WordRuns
 mod Pasts
 mod Symbols
-pub mod Gains
+mod BoxRuns
+mod Gains
+mod BoxLoops
 mod ErrorLoops
 pub mod Errors
 pub mod Near
-pub mod Depths
-pub mod Forgetting
+mod Depths
+mod Forgetting
+mod Narrowed
+pub mod GainLaws
 mod Loops
+mod NarrowingLoops
 pub mod Equations

@@ -8,7 +8,6 @@ use Rattle.dsv_linear.specs.declared.range.Range.{Range}
 use Rattle.dsv_linear.specs.Forms.{◌>>=◌, unit}
 use Rattle.dsv_gain.specs.declared.outlook.Outlook.{Outlook}
 use Rattle.dsv_gain.specs.declared.pass.Pass.{Pass}
-use Rattle.dsv_gain.specs.declared.pass.Sample.{Sample}
 use Rattle.dsv_gain.specs.declared.walk.Walk.{Walk}
 use Rattle.dsv_gain.specs.declared.outlook.Gain.{Gain}
 use Rattle.dsv_gain.specs.declared.ends.Ends.{Ends}
@@ -17,29 +16,29 @@ use Rattle.dsv_gain.specs.declared.ends.Ends.TheVariants as shown
 use Rattle.dsv_gain.specs.declared.search.Search.{Search}
 use Rattle.dsv_gain.specs.declared.search.Turn.{Turn}
 use Rattle.dsv_gain.specs.declared.search.Turn.TheVariants as turns
-use Rattle.dsv_gain.specs.Samples.{own_after, after_node, walk_from, begun, later_ends, with_ends, shown_by, then_ends, ends_from, hull, pass_ends, after_pass}
+use Rattle.dsv_gain.specs.Samples.{own_after, after_node, walk_from, begun, later_ends, with_ends, shown_by, then_ends, ends_from, pass_ends, after_pass}
 use Rattle.dsv_gain.proofs.Walks.{step_is, weights_long}
-use Rattle.dsv_gain.specs.Gains.{hulls, hulls_after, symbol_registers, is_past, gives_past, first_ranges, sample_symbols, has_settled, gain_at, gain_turn, step_turn, run_turn, sample_turn, turn_outlook, gain_from}
+use Rattle.dsv_gain.specs.Gains.{pairwise, hulls, hulls_after, symbol_registers, is_past, gives_past, first_ranges, sample_symbols, has_settled, gain_at, gain_turn, step_turn, run_turn, sample_turn, turn_outlook, gain_from}
 
--- ---- hulls
-hulls_next : (rs ss : List Range) (i : ℕ) (d : Range) → i < length rs → i < length ss → hulls (take (suc i) rs) (take (suc i) ss) ≡ hulls (take i rs) (take i ss) ++ hull (get_or rs i d) (get_or ss i d) ∷ []
-hulls_next [] ss i d p q = absurd (omega arith)
-hulls_next (r ∷ rs) [] i d p q = absurd (omega arith)
-hulls_next (r ∷ rs) (s ∷ ss) zero d p q = refl
-hulls_next (r ∷ rs) (s ∷ ss) (suc i) d p q = ap (λ ts. hull r s ∷ ts) (hulls_next rs ss i d (omega arith) (omega arith))
+-- ---- ranges two by two
+pairs_next : (both : Range → Range → Range) (rs ss : List Range) (i : ℕ) (d : Range) → i < length rs → i < length ss → pairwise both (take (suc i) rs) (take (suc i) ss) ≡ pairwise both (take i rs) (take i ss) ++ both (get_or rs i d) (get_or ss i d) ∷ []
+pairs_next both [] ss i d p q = absurd (omega arith)
+pairs_next both (r ∷ rs) [] i d p q = absurd (omega arith)
+pairs_next both (r ∷ rs) (s ∷ ss) zero d p q = refl
+pairs_next both (r ∷ rs) (s ∷ ss) (suc i) d p q = ap (λ ts. both r s ∷ ts) (pairs_next both rs ss i d (omega arith) (omega arith))
 
-pub hulls_more : (rs ss got now : List Range) (i : ℕ) (d h : Range) → i < length rs → i < length ss → got ≡ hulls (take i rs) (take i ss) → h ≡ hull (get_or rs i d) (get_or ss i d) → now ≡ got ++ h ∷ []
-    → now ≡ hulls (take (i + 1) rs) (take (i + 1) ss)
-hulls_more rs ss got now i d h p q g e n =
-    n ∙ rw (g, e) (sym (hulls_next rs ss i d p q)) ∙ ap (λ k. hulls (take k rs) (take k ss)) (sym (add-one i))
+pub pairs_more : (both : Range → Range → Range) (rs ss got now : List Range) (i : ℕ) (d h : Range) → i < length rs → i < length ss → got ≡ pairwise both (take i rs) (take i ss) → h ≡ both (get_or rs i d) (get_or ss i d) → now ≡ got ++ h ∷ []
+    → now ≡ pairwise both (take (i + 1) rs) (take (i + 1) ss)
+pairs_more both rs ss got now i d h p q g e n =
+    n ∙ rw (g, e) (sym (pairs_next both rs ss i d p q)) ∙ ap (λ k. pairwise both (take k rs) (take k ss)) (sym (add-one i))
 
-pub hulls_all : (rs ss : List Range) (i : ℕ) → (i ≡ length rs) ⊎ (i ≡ length ss) → hulls (take i rs) (take i ss) ≡ hulls rs ss
-hulls_all [] ss zero h = refl
-hulls_all [] ss (suc i) h = refl
-hulls_all (r ∷ rs) [] zero h = refl
-hulls_all (r ∷ rs) [] (suc i) h = refl
-hulls_all (r ∷ rs) (s ∷ ss) zero h = elim h [ inl e ↦ absurd (omega arith) | inr e ↦ absurd (omega arith) ]
-hulls_all (r ∷ rs) (s ∷ ss) (suc i) h = ap (λ ts. hull r s ∷ ts) (hulls_all rs ss i (elim h [ inl e ↦ inl (omega arith) | inr e ↦ inr (omega arith) ]))
+pub pairs_all : (both : Range → Range → Range) (rs ss : List Range) (i : ℕ) → (i ≡ length rs) ⊎ (i ≡ length ss) → pairwise both (take i rs) (take i ss) ≡ pairwise both rs ss
+pairs_all both [] ss zero h = refl
+pairs_all both [] ss (suc i) h = refl
+pairs_all both (r ∷ rs) [] zero h = refl
+pairs_all both (r ∷ rs) [] (suc i) h = refl
+pairs_all both (r ∷ rs) (s ∷ ss) zero h = elim h [ inl e ↦ absurd (omega arith) | inr e ↦ absurd (omega arith) ]
+pairs_all both (r ∷ rs) (s ∷ ss) (suc i) h = ap (λ ts. both r s ∷ ts) (pairs_all both rs ss i (elim h [ inl e ↦ inl (omega arith) | inr e ↦ inr (omega arith) ]))
 
 -- ---- registers
 pub symbols_more : (n : ℕ) → symbol_registers (n + 1) ≡ symbol_registers n ++ unit n ∷ []

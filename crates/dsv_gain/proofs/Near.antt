@@ -28,7 +28,8 @@ use Rattle.dsv_gain.specs.declared.roundoff.ErrorBound.{ErrorBound}
 use Rattle.dsv_gain.specs.Errors.{error_of}
 use Rattle.dsv_gain.specs.Near.{RegistersStayNear, OutputsStayNear, StaysNear, AlwaysNear, ControllersStayNear}
 use Rattle.dsv_gain.proofs.Values.{lie_words}
-use Rattle.dsv_gain.proofs.Errors.{IsIn, bounded, registers_bounded}
+use Rattle.dsv_gain.proofs.BoxRuns.{IsIn}
+use Rattle.dsv_gain.proofs.Errors.{bounded, registers_bounded}
 use Rattle.dsv_gain.specs.Subjects.{HoldsAlways}
 use Rattle.dsv_realise.specs.Controllers.{of_controller}
 

@@ -488,7 +488,7 @@ single k = ring (env (k ∷ [])) (times (num (pos 1)) (var 0)) (var 0) refl
 -- a value that is over this denominator, by its extreme sums
 value_lies : (g : Quantity) (k base over : ℤ) (sums ends : Range) (v all : ℤ) → IsOver g over → pos 0 <ℤ k → base ≡ k *ℤ over → AreSums base sums all → pos scale *ℤ k *ℤ v ≡ all → rounded_range g sums ≡ Some ends
     → Between (over *ℤ ends.low) (over *ℤ ends.high) v
-value_lies quantity.Words k base over sums ends v all o p w a m e =
+value_lies (quantity.Words multiples) k base over sums ends v all o p w a m e =
     let same : base ≡ k = w ∙ ap (λ y. k *ℤ y) o ∙ alone k in
     let lie = value_between k sums ends v all p (subst (λ (b : ℤ). AreSums b sums all) same a) m e in
     let low : over *ℤ ends.low ≡ ends.low = ap (λ y. y *ℤ ends.low) o ∙ single ends.low in

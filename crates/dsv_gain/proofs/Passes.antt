@@ -210,8 +210,8 @@ sample_lies count net g over low high pass words x values ends b w h s =
 words_made : (count : ℕ) (net : Net) (pass : Pass) (ends : List Range) → pass_words count net.nodes pass ≡ Some ends → IsMade net pass
 words_made count net pass ends g = ends_made count pass net.nodes (begun pass) ends (words_are (pass_ends count net.nodes pass) ends g)
 
-over_positive : (g : Quantity) (over : ℤ) → IsOver g over → pos 0 ≤ℤ over
-over_positive quantity.Words over o = omega (arith, ints, o)
+pub over_positive : (g : Quantity) (over : ℤ) → IsOver g over → pos 0 ≤ℤ over
+over_positive (quantity.Words multiples) over o = omega (arith, ints, o)
 over_positive (quantity.Differences multiples) over o = omega (arith, ints, o)
 
 -- ---- the first samples

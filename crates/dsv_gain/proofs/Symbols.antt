@@ -21,6 +21,7 @@ use Rattle.dsv_linear.specs.Forms.{scale, range_scale, range, range_at, unit}
 use Rattle.dsv_linear.specs.Meaning.{LiesIn}
 use Rattle.dsv_linear.proofs.Numbers.{times_up}
 use Rattle.dsv_linear.proofs.Meanings.{replicated}
+use Rattle.dsv_roundoff.specs.Differences.{multiples_of}
 use Rattle.dsv_gain.specs.declared.pass.Quantity.{Quantity}
 use Rattle.dsv_gain.specs.declared.pass.Quantity.TheVariants as quantity
 use Rattle.dsv_gain.specs.declared.pass.Pass.{Pass}
@@ -83,7 +84,7 @@ symbol_means n m r us p q =
     ∙ sym (alone (pos scale) (us r)))
 
 over_above : (g : Quantity) (over : ℤ) → IsOver g over → pos 0 <ℤ over
-over_above quantity.Words over o = omega (arith, ints, o)
+over_above (quantity.Words multiples) over o = omega (arith, ints, o)
 over_above (quantity.Differences multiples) over o = o
 
 once : (v : ℤ) → pos 1 *ℤ v ≡ v
@@ -248,6 +249,6 @@ registers_stand count net g over low high own words o long many lie few none =
 
 -- registers that are words
 pub words_stand : (count : ℕ) (net : Net) (low high : ℤ) (words : List ℤ) → IsNetlist net → AreRegisters net low high words → count ≤ length net.next → ((j : ℕ) → j < count → at words j ≡ pos 0)
-    → Stands count net quantity.Words (pos 1) low high (word_pass net low high) words
+    → Stands count net (quantity.Words (multiples_of net.format net.nodes)) (pos 1) low high (word_pass net low high) words
 words_stand count net low high words netlist r few none =
-    registers_stand count net quantity.Words (pos 1) low high (register_symbols net low high) words refl (symbols_long net low high netlist) r.many (symbols_are net low high words netlist r) few none
+    registers_stand count net (quantity.Words (multiples_of net.format net.nodes)) (pos 1) low high (register_symbols net low high) words refl (symbols_long net low high netlist) r.many (symbols_are net low high words netlist r) few none

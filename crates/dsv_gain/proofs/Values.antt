@@ -64,7 +64,7 @@ free f multiples (v ∷ vs) = All-cons (Fits f (quantity.Differences multiples))
 
 -- fitting changes nothing of what lies in such ranges
 pub lie_fits : (g : Quantity) (over : ℤ) (f : Format) (rs : List Range) (vs : List ℤ) → IsOver g over → LieOver over f rs vs → All (Fits f g) vs
-lie_fits quantity.Words over f rs vs o l = lie_words f rs vs (lie_within over f rs vs o l)
+lie_fits (quantity.Words multiples) over f rs vs o l = lie_words f rs vs (lie_within over f rs vs o l)
 lie_fits (quantity.Differences multiples) over f rs vs o l = free f multiples vs
 
 -- ---- ends

@@ -3,18 +3,11 @@
 -- The differences obey the netlist's own step without input, and each rounding brings an error. So
 -- the forms of the gain bound them, from registers whose differences lie in a box: if after so many
 -- samples, with all errors since, they lie in it again, then they do in every sample.
-use Rattle.std.specs.Prelude.{ℕ, zero, suc, Bool, true, false, not, ◌&&◌, if◌then◌else◌, int_lt}
-use Rattle.std.specs.Prelude.{List, [], ◌∷◌, length, map, drop}
-use Rattle.std.specs.Prelude.{Option, Some, None, nat_lt, pos}
-use Rattle.dsv_word.specs.declared.format.Format.{Format}
+use Rattle.std.specs.Prelude.{ℕ, zero, suc, if◌then◌else◌, List, length, map, Option, Some, None}
 use Rattle.dsv_netlist.specs.declared.node.Node.{Node}
-use Rattle.dsv_netlist.specs.declared.node.Node.TheVariants.{Input, Reg, MulConst}
-use Rattle.dsv_netlist.specs.declared.node.Node.TheVariants.{Round, Add, Sub, Fit, Scale}
-use Rattle.dsv_netlist.specs.Conditions.{is_fit}
 use Rattle.dsv_netlist.specs.Nodes.{Net}
 use Rattle.dsv_linear.specs.declared.range.Range.{Range}
-use Rattle.dsv_linear.specs.Forms.{◌>>=◌, range, range_at}
-use Rattle.dsv_linear.specs.Known.{are_words}
+use Rattle.dsv_linear.specs.Forms.{◌>>=◌, range}
 use Rattle.dsv_roundoff.specs.Differences.{multiples_of}
 use Rattle.dsv_gain.specs.declared.pass.Pass.{Pass}
 use Rattle.dsv_roundoff.specs.declared.offers.WordRange.{WordRange}
@@ -22,9 +15,7 @@ use Rattle.dsv_roundoff.specs.declared.offers.RoundoffOffer.{RoundoffOffer}
 use Rattle.dsv_gain.specs.declared.pass.Quantity.TheVariants as quantity
 use Rattle.dsv_gain.specs.Samples.{ranges_in, pass_ends, after_pass}
 use Rattle.dsv_gain.specs.Gains.{hulls, hulls_after, symbol_of_range, symbol_pass}
-
-abbrev pub none_range : Range
-none_range = range (pos 0) (pos 0)
+use Rattle.dsv_gain.specs.Boxes.{none_range, range_in, is_kept}
 
 abbrev pub range_from : WordRange → Range
 range_from w = range w.low w.high
@@ -47,63 +38,11 @@ differences_from nodes next (suc left) pass seen =
     ranges_in (pass_ends (length next) nodes pass) >>= λ now.
     differences_from nodes next left (after_pass nodes next pass) (Some (hulls_after seen now))
 
--- ---- the box again
--- the range of this number, where there is one
-abbrev pub range_of : List Range → ℕ → Option Range
-range_of ranges i = if nat_lt i (length ranges) then Some (range_at ranges i) else None
-
--- the range of the difference of a node that gives words, where these are those of the registers
--- and of what it and the nodes after it fit
-abbrev pub node_range : List Range → List Range → Node → Option Range
-node_range box ranges Input = Some none_range
-node_range box ranges (Reg register) = range_of box register
-node_range box ranges (MulConst coeff of) = None
-node_range box ranges (Round of) = None
-node_range box ranges (Add left right) = None
-node_range box ranges (Sub left right) = None
-node_range box ranges (Fit of) = range_of ranges 0
-node_range box ranges (Scale of) = None
-
--- the same of the node of this number
-abbrev pub difference_range : List Range → List Range → List Node → ℕ → Option Range
-difference_range box ranges [] i = None
-difference_range box ranges (node ∷ nodes) zero = node_range box ranges node
-difference_range box ranges (node ∷ nodes) (suc i) =
-    difference_range box (if is_fit node then drop 1 ranges else ranges) nodes i
-
--- how many of the first so many nodes fit their values
-abbrev pub fits_before : List Node → ℕ → ℕ
-fits_before [] i = 0
-fits_before (node ∷ nodes) zero = 0
-fits_before (node ∷ nodes) (suc i) =
-    if is_fit node then suc (fits_before nodes i) else fits_before nodes i
-
--- every number of the one is in the other
-abbrev pub is_inside : Range → Range → Bool
-is_inside r s = not (int_lt r.low s.low) && not (int_lt s.high r.high)
-
-abbrev pub is_known_inside : Option Range → Range → Bool
-is_known_inside None s = false
-is_known_inside (Some r) s = is_inside r s
-
--- a register's range in the box has words as its ends, and holds 0 and what the register is loaded
--- with, from the node of this number
-abbrev pub holds_loaded : Format → List Range → List Range → List Node → ℕ → Range → Bool
-holds_loaded format box ranges nodes i r = are_words format r && is_inside none_range r
-    && is_known_inside (difference_range box ranges nodes i) r
-
--- each register has such a range
-abbrev pub is_kept : Format → List Range → List Range → List Node → List ℕ → List Range → Bool
-is_kept format box ranges nodes [] [] = true
-is_kept format box ranges nodes [] (r ∷ rest) = false
-is_kept format box ranges nodes (i ∷ next) [] = false
-is_kept format box ranges nodes (i ∷ next) (r ∷ rest) =
-    holds_loaded format box ranges nodes i r && is_kept format box ranges nodes next rest
-
 -- the range of the output's difference, where the box is kept
 abbrev pub kept_range : Net → List Range → List Range → Option Range
-kept_range net box ranges = if is_kept net.format box ranges net.nodes net.next box
-    then difference_range box ranges net.nodes net.output else None
+kept_range net box ranges =
+    if is_kept net.format none_range box ranges net.nodes net.next box
+    then range_in none_range box ranges net.nodes net.output else None
 
 abbrev pub box_range : Net → List Range → ℕ → Option Range
 box_range net box depth =

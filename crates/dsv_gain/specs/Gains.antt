@@ -14,6 +14,7 @@ use Rattle.dsv_netlist.specs.declared.node.Node.TheVariants.{Round, Add, Sub, Fi
 use Rattle.dsv_netlist.specs.Nodes.{Net}
 use Rattle.dsv_linear.specs.declared.range.Range.{Range}
 use Rattle.dsv_linear.specs.Forms.{◌>>=◌, scale, range_scale, range, unit, least, greatest}
+use Rattle.dsv_roundoff.specs.Differences.{multiples_of}
 use Rattle.dsv_gain.specs.declared.ends.Ends.{Ends}
 use Rattle.dsv_gain.specs.declared.ends.Ends.TheVariants as ends
 use Rattle.dsv_gain.specs.declared.pass.Quantity.{Quantity}
@@ -28,10 +29,14 @@ use Rattle.dsv_gain.specs.declared.search.Turn.TheVariants as turns
 use Rattle.dsv_gain.specs.Samples.{form_at, hull, pass_ends, after_pass}
 
 -- ---- ranges
+-- range by range, what is made of both
+abbrev pub pairwise : (Range → Range → Range) → List Range → List Range → List Range
+pairwise both [] others = []
+pairwise both (r ∷ ranges) [] = []
+pairwise both (r ∷ ranges) (s ∷ others) = both r s ∷ pairwise both ranges others
+
 abbrev pub hulls : List Range → List Range → List Range
-hulls [] others = []
-hulls (r ∷ ranges) [] = []
-hulls (r ∷ ranges) (s ∷ others) = hull r s ∷ hulls ranges others
+hulls = pairwise hull
 
 -- the ranges of samples before, if there were any, and of one more
 abbrev pub hulls_after : Option (List Range) → List Range → List Range
@@ -198,8 +203,8 @@ symbol_pass net quantity symbols input = record {
 
 -- from registers that are inputs and words
 abbrev pub word_pass : Net → ℤ → ℤ → Pass
-word_pass net low high = symbol_pass net quantity.Words (register_symbols net low high)
-    (symbol_of_range (range low high))
+word_pass net low high = symbol_pass net (quantity.Words (multiples_of net.format net.nodes))
+    (register_symbols net low high) (symbol_of_range (range low high))
 
 -- before the first sample
 abbrev pub first_search : Net → ℤ → ℤ → Search
@@ -213,6 +218,6 @@ first_search net low high = record {
 -- all runs up to it, and those of the sample itself after any words in the registers, are ranges of
 -- words. The depth is the first sample that has one. The ranges are those of the first sample from
 -- there on that has one and has settled, or of the last that has one.
-unfoldable pub gain_of : Net → ℤ → ℤ → ℕ → Outlook
-gain_of net low high limit =
+unfoldable pub first_gain : Net → ℤ → ℤ → ℕ → Outlook
+first_gain net low high limit =
     gain_from net.nodes net.next limit 0 (first_search net low high)

@@ -1,5 +1,7 @@
 pub mod Gains
 pub mod Samples
+pub mod Boxes
+pub mod Narrowing
 pub mod Safe
 pub mod Errors
 pub mod Near

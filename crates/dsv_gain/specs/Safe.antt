@@ -13,7 +13,8 @@ use Rattle.dsv_linear.specs.declared.range.Range.{Range}
 use Rattle.dsv_gain.specs.declared.outlook.Gain.{Gain}
 use Rattle.dsv_gain.specs.declared.outlook.Outlook.{Outlook}
 use Rattle.dsv_gain.specs.declared.outlook.Outlook.TheVariants as outlook
-use Rattle.dsv_gain.specs.Gains.{past_range, pasts, gain_of}
+use Rattle.dsv_gain.specs.Gains.{past_range, pasts}
+use Rattle.dsv_gain.specs.Narrowing.{gain_of}
 
 -- each value lies in its range, whose ends are words
 abbrev pub LieWithin : Format → List Range → List ℤ → Type 0

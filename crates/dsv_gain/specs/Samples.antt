@@ -22,7 +22,7 @@ use Rattle.dsv_linear.specs.declared.range.Factor.TheVariants.{Low, High}
 use Rattle.dsv_linear.specs.Divisions.{symbol_by}
 use Rattle.dsv_linear.specs.Forms.{◌>>=◌, scale, range_scale, range, both, lower, upper}
 use Rattle.dsv_linear.specs.Forms.{entries, factor_sum, sum_of, difference_of, product_of, unit}
-use Rattle.dsv_linear.specs.Known.{are_words, error_range}
+use Rattle.dsv_linear.specs.Known.{are_words}
 use Rattle.dsv_roundoff.specs.Differences.{errors_at}
 use Rattle.dsv_gain.specs.declared.ends.Ends.{Ends}
 use Rattle.dsv_gain.specs.declared.ends.Ends.TheVariants as ends
@@ -153,7 +153,7 @@ outer_range sums =
 
 -- the values of runs in words are whole, their differences from an exact run are not
 abbrev pub rounded_range : Quantity → Range → Option Range
-rounded_range quantity.Words sums = whole_range sums
+rounded_range (quantity.Words multiples) sums = whole_range sums
 rounded_range (quantity.Differences multiples) sums = outer_range sums
 
 -- where the first so many symbols are 0
@@ -175,7 +175,7 @@ widened (s ∷ ranges) (suc j) r = s ∷ widened ranges j r
 
 -- the errors of the rounding of the value of this number
 abbrev pub errors_of : Format → Quantity → ℕ → Range
-errors_of format quantity.Words of = error_range format.rounding format.frac_bits
+errors_of format (quantity.Words multiples) of = errors_at format multiples of
 errors_of format (quantity.Differences multiples) of = errors_at format multiples of
 
 -- the symbol of a rounding is its error, one of these, and what the coefficients lose

@@ -1,6 +1,6 @@
 -- What a gain says of a subject's runs, of any length.
 use Rattle.std.specs.Prelude.{◌≡◌, ℕ, List}
-use Rattle.dsv_gain.specs.Gains.{gain_of}
+use Rattle.dsv_gain.specs.Narrowing.{gain_of}
 use Rattle.dsv_gain.specs.Safe.{HoldsBy, NeverBy}
 use Rattle.dsv_gain.specs.declared.outlook.Gain.{Gain}
 use Rattle.dsv_gain.specs.declared.outlook.Outlook.{Outlook}

@@ -1,23 +1,19 @@
 // What a box of differences and a depth show of the output's difference.
-ghost use Rattle.std.specs.Prelude.{◌≡◌, ◌<◌, ◌≤◌, ◌-◌, ◌^◌, ◌&&◌, if◌then◌else◌, suc};
-ghost use Rattle.std.specs.Prelude.{length, map, drop, IfOk, None};
-ghost use Rattle.dsv_netlist.specs.Conditions.{is_fit};
+ghost use Rattle.std.specs.Prelude.{◌≡◌, map, IfOk, None};
 ghost use Rattle.dsv_gain.specs.Gains.{symbol_of_range};
+ghost use Rattle.dsv_gain.specs.Boxes.{none_range};
 ghost use Rattle.dsv_gain.specs.Errors.{range_from, error_pass, differences_from};
-ghost use Rattle.dsv_gain.specs.Errors.{range_of, node_range, difference_range, fits_before};
-ghost use Rattle.dsv_gain.specs.Errors.{none_range, is_inside, is_known_inside, is_kept};
 ghost use Rattle.dsv_gain.specs.Errors.{kept_range, error_of};
-ghost use Rattle.dsv_linear.specs.Known.{are_words};
 
+use crate::boxes::Known;
 use crate::ends::{Ends, SampleEnds};
 use crate::pass::{Pass, Quantity, add_sample};
 use crate::ranges::{Ranges, hulls, hulls_after, symbol_of};
 use crate::starts::symbol_pass;
 use dsv_base::NoMemory;
-use dsv_linear::{Range, are_words};
+use dsv_linear::Range;
 use dsv_netlist::{Netlist, Node};
 use dsv_roundoff::{RoundoffOffer, WordRange, multiples_of};
-use dsv_word::Format;
 use std::alloc::Global;
 
 /// These ranges, as ranges of any numbers.
@@ -97,119 +93,17 @@ fn differences_from(
     Ok(Some(hulls(alloc, &all, &last)?))
 }
 
-/// The range of this number, where there is one.
-fn range_of(ranges: &[Range], i: usize) -> Option<Range>
-    ensures { result ≡ range_of ranges.now i }
+/// What is known of the differences of a sample: an input has none.
+pub(crate) fn differences_in<'a>(registers: &'a [Range], fitted: &'a [Range]) -> Known<'a>
+    ensures input { result.input ≡ none_range }
+    ensures registers { result.registers.now ≡ registers.now }
+    ensures fitted { result.fitted.now ≡ fitted.now }
 {
-    if i < ranges.len() {
-        Some(ranges[i])
-    } else {
-        None
+    Known {
+        input: Range::between(&0, &0),
+        registers,
+        fitted,
     }
-}
-
-/// Whether a node fits its value.
-fn is_fit(node: &Node) -> bool
-    ensures { result ≡ is_fit node.now }
-{
-    match node {
-        Node::Fit(_) => true,
-        _ => false,
-    }
-}
-
-/// The count after a node, which counts where it fits its value.
-fn count_after(count: usize, node: &Node) -> usize
-    requires { count < 2 ^ 64 - 1 }
-    ensures { result ≡ (if is_fit node.now then suc count else count) }
-{
-    if is_fit(node) { count + 1 } else { count }
-}
-
-/// How many of the first so many nodes fit their values.
-fn fits_before(nodes: &[Node], i: usize) -> usize
-    requires { i ≤ length nodes.now }
-    ensures { result ≡ fits_before nodes.now i }
-{
-    let mut count = 0usize;
-    for k in 0..i {
-        count = count_after(count, &nodes[k]);
-    }
-    count
-}
-
-/// The range of the difference of what a node gives, where these are those of the registers and, of
-/// all that is fitted, the one of this number is the next.
-fn node_range(list: &[Range], ranges: &[Range], place: usize, node: &Node) -> Option<Range>
-    ensures { result ≡ node_range list.now (drop place ranges.now) node.now }
-{
-    match node {
-        Node::Input => Some(Range::between(&0, &0)),
-        Node::Reg(register) => range_of(list, *register as usize),
-        Node::Fit(_) => range_of(ranges, place),
-        _ => None,
-    }
-}
-
-/// The same of the node of this number.
-pub(crate) fn difference_range(
-    list: &[Range],
-    ranges: &[Range],
-    nodes: &[Node],
-    i: u32,
-) -> Option<Range>
-    ensures { result ≡ difference_range list.now ranges.now nodes.now i }
-{
-    let i = i as usize;
-    if i < nodes.len() {
-        node_range(list, ranges, fits_before(nodes, i), &nodes[i])
-    } else {
-        None
-    }
-}
-
-/// Whether every number of the one is in the other.
-fn is_inside(r: &Range, s: &Range) -> bool
-    ensures { result ≡ is_inside r.now s.now }
-{
-    !(r.low.get() < s.low.get()) && !(s.high.get() < r.high.get())
-}
-
-/// Whether a register's range has words as its ends, and holds 0 and what the register is loaded
-/// with, where that is known.
-fn holds_loaded(format: &Format, loaded: Option<Range>, r: &Range) -> bool
-    ensures { result ≡ (are_words format.now r.now && is_inside none_range r.now
-        && is_known_inside loaded r.now) }
-{
-    if !are_words(format, r) || !is_inside(&Range::between(&0, &0), r) {
-        return false;
-    }
-    match loaded {
-        Some(loaded) => is_inside(&loaded, r),
-        None => false,
-    }
-}
-
-/// Whether it is so of each register.
-pub(crate) fn is_kept(
-    format: &Format,
-    list: &[Range],
-    ranges: &[Range],
-    nodes: &[Node],
-    next: &[u32],
-) -> bool
-    ensures { result ≡ is_kept format.now list.now ranges.now nodes.now next.now list.now }
-{
-    if list.len() != next.len() {
-        return false;
-    }
-    for j in 0..next.len() {
-        let loaded = difference_range(list, ranges, nodes, next[j]);
-        if !holds_loaded(format, loaded, &list[j]) {
-            return false;
-        }
-    }
-    true
 }
 
 /// The range of the output's difference, where the box is kept.
@@ -224,8 +118,9 @@ fn kept_range(
     requires next { next.now ≡ net.now.next }
     ensures { result ≡ kept_range net.now list.now ranges.now }
 {
-    if is_kept(&net.format(), list, ranges, nodes, next) {
-        difference_range(list, ranges, nodes, net.output())
+    let known = differences_in(list, ranges);
+    if known.is_kept(&net.format(), nodes, next) {
+        known.range_in(nodes, net.output())
     } else {
         None
     }

@@ -4,7 +4,7 @@ ghost use Rattle.std.specs.Prelude.{◌≡◌, ◌<◌, IfOk, IfSome, Some};
 ghost use Rattle.dsv_gain.specs.Errors.{error_of};
 
 use crate::ends::{Ends, SampleEnds};
-use crate::error_ranges::{difference_range, error_of, error_pass, is_kept, ranges_of};
+use crate::error_ranges::{differences_in, error_of, error_pass, ranges_of};
 use crate::pass::{Pass, add_sample};
 use crate::ranges::{Ranges, hulls, hulls_after};
 use crate::roundoff::ErrorBound;
@@ -89,24 +89,6 @@ fn grown_ranges(
     Ok(seen)
 }
 
-/// The ranges of what registers are loaded with, where these are those of the registers.
-fn loaded_ranges(
-    alloc: Global,
-    list: &[Range],
-    ranges: &[Range],
-    nodes: &[Node],
-    next: &[u32],
-) -> Result<Option<Ranges>, NoMemory> {
-    let mut loaded = Ranges::new(alloc);
-    for i in next {
-        let Some(range) = difference_range(list, ranges, nodes, *i) else {
-            return Ok(None);
-        };
-        loaded.push(range)?;
-    }
-    Ok(Some(loaded))
-}
-
 /// The ranges of registers that are loaded from one another as well.
 fn register_ranges(
     alloc: Global,
@@ -119,7 +101,8 @@ fn register_ranges(
         list.push(Range::between(&0, &0))?;
     }
     for _ in next {
-        let Some(loaded) = loaded_ranges(alloc, list.as_slice(), ranges, nodes, next)? else {
+        let known = differences_in(list.as_slice(), ranges);
+        let Some(loaded) = known.loaded_ranges(alloc, nodes, next)? else {
             return Ok(None);
         };
         if are_same(loaded.as_slice(), list.as_slice()) {
@@ -191,13 +174,8 @@ impl BoxTest<'_> {
     /// far and of the sample after the box.
     fn is_kept(&self, alloc: Global, seen: &Ranges, last: &Ranges) -> Result<bool, NoMemory> {
         let both = hulls(alloc, seen, last)?;
-        Ok(is_kept(
-            &self.format,
-            self.ranges,
-            both.as_slice(),
-            self.nodes,
-            self.next,
-        ))
+        let known = differences_in(self.ranges, both.as_slice());
+        Ok(known.is_kept(&self.format, self.nodes, self.next))
     }
 
     /// One sample.

@@ -3,6 +3,8 @@
 //! those of exact runs.
 #![tactic(auto, using(dsv_algebra::proofs::Casts::casts))]
 
+mod box_ranges;
+mod boxes;
 mod controllers;
 mod ends;
 mod error_ranges;

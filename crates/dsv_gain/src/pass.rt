@@ -13,12 +13,12 @@ use dsv_roundoff::Multiples;
 use dsv_word::Format;
 use std::alloc::Global;
 
-/// What the values of a pass are.
+/// What the values of a pass are. Either says which nodes need no rounding.
 #[derive(Drop)]
 pub(crate) enum Quantity {
     /// Those of runs in words, which are whole numbers.
-    Words,
-    /// The differences of such runs from their exact runs. It says which nodes need no rounding.
+    Words(Multiples),
+    /// The differences of such runs from their exact runs.
     Differences(Multiples),
 }
 

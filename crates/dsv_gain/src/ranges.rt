@@ -32,7 +32,7 @@ pub(crate) fn hull(a: &Range, b: &Range) -> Range
 }
 
 /// The lesser of two lengths.
-fn shorter_length(a: &Ranges, b: &Ranges) -> usize
+pub(crate) fn shorter_length(a: &Ranges, b: &Ranges) -> usize
     ensures left { result ≤ length a.now }
     ensures right { result ≤ length b.now }
     ensures one { (result ≡ length a.now) ⊎ (result ≡ length b.now) }
@@ -41,7 +41,7 @@ fn shorter_length(a: &Ranges, b: &Ranges) -> usize
 }
 
 /// The range of this number.
-fn range_at(ranges: &Ranges, i: usize) -> Range
+pub(crate) fn range_at(ranges: &Ranges, i: usize) -> Range
     requires { i < length ranges.now }
     ensures { result ≡ range_at ranges.now i }
 {

@@ -1,9 +1,11 @@
 // The search for a depth, and the settling of its ranges.
 ghost use Rattle.std.specs.Prelude.{◌≡◌, ◌<◌, IfOk, None};
 ghost use Rattle.dsv_gain.specs.Gains.{best_or, gain_at, gain_turn, sample_turn};
-ghost use Rattle.dsv_gain.specs.Gains.{gain_from, gain_of};
+ghost use Rattle.dsv_gain.specs.Gains.{gain_from, first_gain};
+ghost use Rattle.dsv_gain.specs.Narrowing.{gain_of};
 ghost use Rattle.dsv_gain.specs.Safe.{HoldInRuns, NeverBreaks, IfSafe, IsWithin};
 
+use crate::box_ranges::with_narrowed;
 use crate::ends::{Ends, SampleEnds};
 use crate::outlook::{Gain, Outlook};
 use crate::pass::{Pass, add_sample};
@@ -114,7 +116,7 @@ fn sample_turn(
 }
 
 /// What the samples below the limit come to.
-fn gain_from(
+pub(crate) fn gain_from(
     alloc: Global,
     nodes: &[Node],
     next: &[u32],
@@ -133,8 +135,24 @@ fn gain_from(
     Ok(best_or(Outlook::Deep, search.best))
 }
 
+/// What a pass over the samples below the limit finds, from registers that are any words.
+fn first_gain(alloc: Global, subject: &RangedNetlist, limit: u32) -> Result<Outlook, NoMemory>
+    ensures { IfOk result (λ gain. gain
+        ≡ first_gain subject.now.net.now subject.now.low subject.now.high limit) }
+{
+    let net = subject.net;
+    let search = Search {
+        pass: word_pass(alloc, net, subject.low, subject.high)?,
+        seen: None,
+        best: None,
+    };
+    gain_from(alloc, net.nodes(), net.next_nodes(), limit, search)
+}
+
 /// What is found of the runs of a netlist from registers of zeros, over inputs in its range, of any
-/// length, by a pass over the samples below the limit, from registers that are any words.
+/// length, by passes over the samples below the limit: the first one from registers that are any
+/// words, and those after it, at most eight, from what registers hold by the ranges before. It ends
+/// with the pass by which no range narrows by more than a sixteenth.
 pub fn gain_of(alloc: Global, subject: &RangedNetlist, limit: u32) -> Result<Outlook, NoMemory>
     ensures made { IfOk result (λ gain. gain
         ≡ gain_of subject.now.net.now subject.now.low subject.now.high limit) }
@@ -144,12 +162,7 @@ pub fn gain_of(alloc: Global, subject: &RangedNetlist, limit: u32) -> Result<Out
         subject.now.net.now subject.now.low subject.now.high)) }
     ensures within { IfOk result (λ gain. IfSafe gain (IsWithin limit)) }
 {
-    let net = subject.net;
-    let _count = net.len(); // its range, for the proof
-    let search = Search {
-        pass: word_pass(alloc, net, subject.low, subject.high)?,
-        seen: None,
-        best: None,
-    };
-    gain_from(alloc, net.nodes(), net.next_nodes(), limit, search)
+    let _count = subject.net.len(); // its range, for the proof
+    let found = first_gain(alloc, subject, limit)?;
+    with_narrowed(alloc, subject, limit, found)
 }

@@ -9,6 +9,7 @@ use crate::ranges::{Ranges, past_symbol, push_copies, symbol_of};
 use dsv_base::{Items, NoMemory};
 use dsv_linear::{Form, Range, unit};
 use dsv_netlist::{Netlist, Node};
+use dsv_roundoff::multiples_of;
 use std::alloc::Global;
 
 /// Whether a node gives the input, or one of the first so many registers.
@@ -142,5 +143,7 @@ pub(crate) fn word_pass(alloc: Global, net: &Netlist, low: i64, high: i64) -> Re
 {
     let count = pasts(net);
     let symbols = register_symbols(alloc, net, count, low, high)?;
-    symbol_pass(alloc, net, Quantity::Words, symbols, &symbol_of(low, high))
+    let multiples = multiples_of(alloc, &net.format(), net.nodes())?;
+    let input = symbol_of(low, high);
+    symbol_pass(alloc, net, Quantity::Words(multiples), symbols, &input)
 }

@@ -114,11 +114,14 @@ fn widened_ranges(ranges: Ranges, j: usize, range: &Range) -> Ranges
 fn errors_of(pass: &Pass, of: u32) -> Range
     ensures { result ≡ errors_of pass.now.format pass.now.quantity of }
 {
-    match &pass.quantity {
-        Quantity::Differences(multiples) if holds_at(multiples.as_slice(), of) => {
-            Range::between(&0, &0)
-        }
-        _ => error_range(&pass.format),
+    let multiples = match &pass.quantity {
+        Quantity::Words(multiples) => multiples,
+        Quantity::Differences(multiples) => multiples,
+    };
+    if holds_at(multiples.as_slice(), of) {
+        Range::between(&0, &0)
+    } else {
+        error_range(&pass.format)
     }
 }
 

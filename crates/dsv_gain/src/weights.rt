@@ -162,7 +162,7 @@ impl Weights {
     {
         let sums = self.sums_from(ranges, count)?;
         match quantity {
-            Quantity::Words => whole_range(&sums),
+            Quantity::Words(_) => whole_range(&sums),
             Quantity::Differences(_) => outer_range(&sums),
         }
     }

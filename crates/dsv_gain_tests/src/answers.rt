@@ -51,9 +51,8 @@ struct Row {
     wanted: Wanted,
 }
 
-// SUMS: an error of a product is from -15/16 to 0 words. So after n + 1 samples y is at most 31/16
-// words times n + 1, which is 127 and less than a word more for 66 samples, and 129 and something
-// for 67. From any words it leaves the words at once, so it has no depth.
+// SUMS: both products are exact. So after n + 1 samples y is at most n + 1 words, which is 127 for
+// 127 samples, and 128 for 128. From any words it leaves the words at once, so it has no depth.
 //
 // PAIR: the products are exact. What the register of x_1 held at the start counts three words in
 // the values of sample 0, and nothing in those of sample 1.
@@ -66,15 +65,15 @@ const ROWS: [Row; 11] = [
         int_bits: 4,
         frac_bits: 4,
         rounding: Rounding::Floor,
-        limit: 67,
-        wanted: Wanted::Leaves(66, 4),
+        limit: 128,
+        wanted: Wanted::Leaves(127, 4),
     },
     Row {
         text: SUMS,
         int_bits: 4,
         frac_bits: 4,
         rounding: Rounding::Floor,
-        limit: 66,
+        limit: 127,
         wanted: Wanted::Deep,
     },
     Row {

@@ -1,7 +1,7 @@
 use Rattle.std.proofs.Common.{arith, sym}
 use Rattle.dsv_netlist.specs.declared.node.Node.TheVariants.{Input}
-use Rattle.dsv_gain.proofs.ErrorLoops.{none_before, few_fits, fits_more}
-use Rattle.dsv_gain.proofs.error_ranges.fits_before.Goals as goal
+use Rattle.dsv_gain.proofs.BoxLoops.{none_before, few_fits, fits_more}
+use Rattle.dsv_gain.proofs.boxes.fits_before.Goals as goal
 
 pub loop-k-init : goal.loop-k-init
 loop-k-init c = sym (none_before c.args.nodes.now)
