@@ -38,8 +38,8 @@ use Rattle.dsv_invariant.specs.Causes.{IsShaped, IsGood}
 use Rattle.dsv_invariant.specs.Formulas.{set_formula_of}
 use Rattle.dsv_invariant.specs.Limits.{unbounded_samples}
 use Rattle.dsv_roundoff.specs.declared.offers.RoundoffOffer.{RoundoffOffer}
-use Rattle.dsv_gain.specs.declared.outlook.Gain.{Gain}
-use Rattle.dsv_gain.specs.declared.outlook.Outlook.TheVariants as outlook
+use Rattle.dsv_network.specs.declared.outlook.Gain.{Gain}
+use Rattle.dsv_network.specs.declared.outlook.Outlook.TheVariants as outlook
 use Rattle.dsv_certfile.specs.Lawful.{IsSize}
 use Rattle.dsv_certfile.specs.Limits.{most_samples, most_gain_depth, narrow_word_bits, most_coefficients}
 use Rattle.dsv_certfile.specs.Words.{words_for}

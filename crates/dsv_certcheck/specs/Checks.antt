@@ -38,8 +38,8 @@ use Rattle.dsv_linear.specs.declared.range.Range.{Range}
 use Rattle.dsv_realise.specs.Netlists.{net_of}
 use Rattle.dsv_roundoff.specs.declared.offers.RoundoffOffer.{RoundoffOffer}
 use Rattle.dsv_gain.specs.Errors.{error_of}
-use Rattle.dsv_gain.specs.declared.outlook.Outlook.{Outlook}
-use Rattle.dsv_gain.specs.declared.outlook.Outlook.TheVariants as outlook
+use Rattle.dsv_network.specs.declared.outlook.Outlook.{Outlook}
+use Rattle.dsv_network.specs.declared.outlook.Outlook.TheVariants as outlook
 use Rattle.dsv_certcheck.specs.FormLines.{form_line}
 use Rattle.dsv_certcheck.specs.LineNumbers.{version_line_number, format_line_number}
 use Rattle.dsv_certcheck.specs.LineNumbers.{kind_line, body_line, log_line}

@@ -41,7 +41,7 @@ use Rattle.dsv_report.specs.declared.answers.Answer.{Answer}
 use Rattle.dsv_report.specs.declared.answers.Answer.TheVariants as answer
 use Rattle.dsv_report.specs.declared.answers.OutputError.{OutputError}
 use Rattle.dsv_roundoff.specs.declared.offers.RoundoffOffer.{RoundoffOffer}
-use Rattle.dsv_gain.specs.declared.outlook.Gain.{Gain}
+use Rattle.dsv_network.specs.declared.outlook.Gain.{Gain}
 use Rattle.dsv_gain.proofs.GainLaws.{gains_again, gain_within}
 use Rattle.dsv_realise.specs.Netlists.{net_of}
 use Rattle.dsv_cli.specs.Gain.{most_gain_samples, IsErrorOf}

@@ -20,7 +20,7 @@ use Rattle.dsv_invariant.specs.Limits.{unbounded_samples}
 use Rattle.dsv_cli.specs.Gain.{most_gain_samples}
 use Rattle.dsv_gain.specs.Subjects.{IsBreakOf}
 use Rattle.dsv_gain.specs.Subjects.{outlook_of}
-use Rattle.dsv_gain.specs.declared.outlook.Outlook.TheVariants as outlook
+use Rattle.dsv_network.specs.declared.outlook.Outlook.TheVariants as outlook
 use Rattle.dsv_realise.specs.Running.{counts_as}
 use Rattle.dsv_realise.specs.SubjectView.{SubjectView}
 use Rattle.dsv_invariant.specs.Sets.{KeepsTo, NoneIsGood}

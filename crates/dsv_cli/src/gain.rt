@@ -4,7 +4,7 @@ ghost use Rattle.std.specs.Prelude.{◌≡◌, IfOk};
 ghost use Rattle.dsv_cli.specs.Causes.{IsOfLeft, IsPlain};
 ghost use Rattle.dsv_cli.specs.Gain.{IsErrorOf, IsNotSought, IsOfGain, most_gain_samples};
 ghost use Rattle.dsv_gain.specs.Subjects.{HoldsAlways, outlook_of};
-ghost use Rattle.dsv_gain.specs.declared.outlook.Outlook.TheVariants as outlook;
+ghost use Rattle.dsv_network.specs.declared.outlook.Outlook.TheVariants as outlook;
 ghost use Rattle.dsv_realise.specs.Controllers.{of_controller};
 
 use dsv_base::NoMemory;

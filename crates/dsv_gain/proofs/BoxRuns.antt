@@ -1,36 +1,39 @@
 -- A box that a sample keeps holds the registers of every run from zeros.
-use Rattle.std.proofs.Common.{◌≡◌, ℕ, zero, suc, ◌<◌, ◌≤◌, Bool, true, false, if◌then◌else◌, List, [], ◌∷◌, ◌++◌, length, map, take, drop, refl, sym, subst, ap, ◌∙◌, arith}
+use Rattle.std.proofs.Common.{◌≡◌, ℕ, zero, suc, ◌<◌, Bool, true, false, if◌then◌else◌, List, [], ◌∷◌, ◌++◌, length, map, drop, refl, sym, subst, ap, arith}
 use Rattle.std.specs.Prelude.{Option, Some, None, nat_lt, int_lt, not, ◌&&◌}
 use Rattle.std.specs.List.{All}
 use Rattle.std.proofs.Math.IntN.{ℤ, pos, ◌*ℤ◌}
 use Rattle.std.proofs.lemmas.Int.{ints}
 use Rattle.std.proofs.lemmas.Bool.{ltb-true}
-use Rattle.std.proofs.lemmas.List.{get_or-map, length-map}
-use Rattle.std.proofs.lemmas.List.Elements.{All-head, All-tail, All-nil, All-cons, All-weaker}
-use lib.Signed.{◌≤ℤ◌}
+use Rattle.std.proofs.lemmas.List.Elements.{All-head, All-nil, All-cons}
+use lib.Signed.{◌<ℤ◌, ◌≤ℤ◌}
 use Rattle.dsv_algebra.proofs.Booleans.{and_left, and_right}
 use Rattle.dsv_word.specs.declared.format.Format.{Format}
 use Rattle.dsv_system.specs.Systems.{zeros}
 use Rattle.dsv_netlist.specs.declared.node.Node.{Node}
 use Rattle.dsv_netlist.specs.declared.node.Node.TheVariants.{Input, Reg, MulConst, Round, Add, Sub, Fit, Scale}
-use Rattle.dsv_netlist.specs.Nodes.{Net, at, node_exact}
+use Rattle.dsv_netlist.specs.Nodes.{Net, at}
 use Rattle.dsv_netlist.specs.Conditions.{is_fit}
 use Rattle.dsv_linear.specs.Facts.{Between}
 use Rattle.dsv_linear.specs.declared.range.Range.{Range}
 use Rattle.dsv_linear.specs.Forms.{range, range_at}
 use Rattle.dsv_linear.specs.Known.{are_words}
-use Rattle.dsv_linear.specs.Meaning as meaning
+use Rattle.dsv_linear.specs.Meaning.{LiesIn}
 use Rattle.dsv_linear.proofs.Numbers.{times_up, times_none}
-use Rattle.dsv_linear.proofs.Meanings.{replicated}
-use Rattle.dsv_gain.specs.declared.pass.Quantity.{Quantity}
-use Rattle.dsv_gain.specs.declared.pass.Pass.{Pass}
-use Rattle.dsv_gain.specs.Gains.{hulls, symbol_of_range, symbol_pass}
-use Rattle.dsv_gain.specs.Boxes.{none_range, range_of, node_range, range_in, is_inside, is_known_inside, is_kept}
-use Rattle.dsv_gain.proofs.Given.{IsOver, Fits, IsGiven, AreGiven, fitted_in, RunsGiven}
-use Rattle.dsv_gain.proofs.Values.{LieOver, lie_fits}
-use Rattle.dsv_gain.proofs.Hulls.{hulls_left, hulls_right, run_ends, later_words, run_are, after_are}
-use Rattle.dsv_gain.proofs.Passes.{Stands, LiesIn, over_positive, run_lies, next_has, all_have}
-use Rattle.dsv_gain.proofs.Symbols.{symbol_lies, registers_stand}
+use Rattle.dsv_roundoff.specs.Differences.{multiples_of}
+use Rattle.dsv_network.specs.declared.signal.Signal.{Signal}
+use Rattle.dsv_network.specs.declared.network.Network.{Network}
+use Rattle.dsv_network.specs.Gains.{none_range}
+use Rattle.dsv_network.specs.Runs.{Fits, IsGiven, AreGiven, RunsGiven, node_shows, shown_in, LieOver, ShowsIn, AreIn}
+use Rattle.dsv_network.proofs.Values.{lie_fits}
+use Rattle.dsv_network.proofs.Passes.{not_below}
+use Rattle.dsv_network.proofs.Holding.{HoldAlways}
+use Rattle.dsv_gain.specs.declared.networks.Quantity.{Quantity}
+use Rattle.dsv_gain.specs.declared.networks.Quantity.TheVariants as quantity
+use Rattle.dsv_gain.specs.Networks.{shown_as, signal_of, network_of}
+use Rattle.dsv_gain.specs.Gains.{symbol_of_range}
+use Rattle.dsv_gain.specs.Boxes.{range_of, node_range, range_in, is_inside, is_known_inside, is_kept}
+use Rattle.dsv_gain.proofs.Symbols.{symbol_lies, symbol_back}
 
 -- ---- the box
 -- a number over d lies in a range
@@ -38,19 +41,13 @@ abbrev pub IsIn : ℤ → Range → ℤ → Type 0
 IsIn d r v = Between (d *ℤ r.low) (d *ℤ r.high) v
 
 -- each of these numbers lies in its range
-abbrev pub AreIn : ℤ → List Range → List ℤ → Type 0
-AreIn d [] [] = Unit {0}
-AreIn d [] (v ∷ vs) = ⊥
-AreIn d (r ∷ box) [] = ⊥
-AreIn d (r ∷ box) (v ∷ vs) = IsIn d r v × AreIn d box vs
+abbrev pub BoxIn : ℤ → List Range → List ℤ → Type 0
+BoxIn d [] [] = Unit {0}
+BoxIn d [] (v ∷ vs) = ⊥
+BoxIn d (r ∷ box) [] = ⊥
+BoxIn d (r ∷ box) (v ∷ vs) = IsIn d r v × BoxIn d box vs
 
-in_long : (d : ℤ) (box : List Range) (vs : List ℤ) → AreIn d box vs → length vs ≡ length box
-in_long d [] [] h = refl
-in_long d [] (v ∷ vs) h = absurd h
-in_long d (r ∷ box) [] h = absurd h
-in_long d (r ∷ box) (v ∷ vs) h = ap suc (in_long d box vs h.1)
-
-in_at : (d : ℤ) (box : List Range) (vs : List ℤ) (j : ℕ) → AreIn d box vs → j < length box → IsIn d (range_at box j) (at vs j)
+in_at : (d : ℤ) (box : List Range) (vs : List ℤ) (j : ℕ) → BoxIn d box vs → j < length box → IsIn d (range_at box j) (at vs j)
 in_at d [] vs j h l = absurd (omega arith)
 in_at d (r ∷ box) [] j h l = absurd h
 in_at d (r ∷ box) (v ∷ vs) zero h l = h.0
@@ -60,15 +57,15 @@ in_at d (r ∷ box) (v ∷ vs) (suc j) h l = in_at d box vs j h.1 (omega arith)
 pub no_range : (r : Range) → None ≡ Some r → ⊥
 no_range r e = cc
 
-known_cases : (b : Bool) (d : ℤ) (box : List Range) (regs : List ℤ) (k : ℕ) (r : Range) → nat_lt k (length box) ≡ b → AreIn d box regs → (if b then Some (range_at box k) else None) ≡ Some r → IsIn d r (at regs k)
+known_cases : (b : Bool) (d : ℤ) (box : List Range) (regs : List ℤ) (k : ℕ) (r : Range) → nat_lt k (length box) ≡ b → BoxIn d box regs → (if b then Some (range_at box k) else None) ≡ Some r → IsIn d r (at regs k)
 known_cases true d box regs k r p a e = let same : range_at box k ≡ r = cc in subst (λ (s : Range). IsIn d s (at regs k)) same (in_at d box regs k a (ltb-true k (length box) p))
 known_cases false d box regs k r p a e = absurd (no_range r e)
 
 -- the input
-input_in : (d low high x w : ℤ) (r : Range) → pos 0 ≤ℤ d → Between low high x → Some (range low high) ≡ Some r → w ≡ d *ℤ x → IsIn d r w
-input_in d low high x w r u b e h =
+input_in : (d low high w : ℤ) (r : Range) → Some (range low high) ≡ Some r → LiesIn d (symbol_of_range (range low high)) w → IsIn d r w
+input_in d low high w r e l =
     let same : range low high ≡ r = cc in
-    subst (λ (s : Range). IsIn d s w) same (rw h (record { least = times_up d low x u b.least; most = times_up d x high u b.most }))
+    subst (λ (s : Range). IsIn d s w) same (symbol_back d (range low high) w l)
 
 first_cases : (b : Bool) (ranges : List Range) (r : Range) → nat_lt 0 (length ranges) ≡ b → (if b then Some (range_at ranges 0) else None) ≡ Some r → range_at ranges 0 ≡ r
 first_cases true ranges r p e = cc
@@ -82,37 +79,51 @@ rest_in : (d : ℤ) (f : Format) (ranges : List Range) (v : ℤ) (vs : List ℤ)
 rest_in d f [] v vs l = absurd l
 rest_in d f (s ∷ ranges) v vs l = l.1
 
-node_in : (f : Format) (g : Quantity) (d low high x : ℤ) (box ranges : List Range) (regs : List ℤ) (n : Node) (before : List ℤ) (w : ℤ) (more : List ℤ) (r : Range) → IsOver g d → Between low high x → AreIn d box regs → IsGiven f g d regs x before n w
-    → LieOver d f ranges (node_exact before n ++ more) → node_range (range low high) box ranges n ≡ Some r → IsIn d r w
-node_in f g d low high x box ranges regs Input before w more r o b a h l e = input_in d low high x w r (over_positive g d o) b e h
-node_in f g d low high x box ranges regs (Reg k) before w more r o b a h l e = subst (IsIn d r) (sym h) (known_cases (nat_lt k (length box)) d box regs k r refl a e)
-node_in f g d low high x box ranges regs (MulConst c i) before w more r o b a h l e = absurd (no_range r e)
-node_in f g d low high x box ranges regs (Round i) before w more r o b a h l e = absurd (no_range r e)
-node_in f g d low high x box ranges regs (Add i j) before w more r o b a h l e = absurd (no_range r e)
-node_in f g d low high x box ranges regs (Sub i j) before w more r o b a h l e = absurd (no_range r e)
-node_in f g d low high x box ranges regs (Fit i) before w more r o b a h l e =
-    let fits = All-head (Fits f g) (at before i) more (lie_fits g d f ranges (at before i ∷ more) o l) in
-    subst (IsIn d r) (sym (h fits)) (fit_in d f ranges r (at before i) more l e)
-node_in f g d low high x box ranges regs (Scale i) before w more r o b a h l e = absurd (no_range r e)
+-- what a node of the network gives, where it is given by these
+abbrev signals : Format → Quantity → List Bool → ℤ → ℤ → List Node → List Signal
+signals f q says low high ns = map (signal_of f q says (symbol_of_range (range low high))) ns
+
+fit_given : (f : Format) (q : Quantity) (d : ℤ) (regs before : List ℤ) (i : ℕ) (w : ℤ) (r : Range) (ranges : List Range) (more : List ℤ) → pos 0 <ℤ d → IsGiven f d regs before (shown_as q i) w → LieOver d f ranges (node_shows before (shown_as q i) ++ more)
+    → range_of ranges 0 ≡ Some r → IsIn d r w
+fit_given f quantity.Words d regs before i w r ranges more o h l e =
+    let fits = All-head (Fits f d) (at before i) more (lie_fits d f ranges (at before i ∷ more) (not_below d o) l) in
+    subst (IsIn d r) (sym (h.same fits)) (fit_in d f ranges r (at before i) more l e)
+fit_given f quantity.Differences d regs before i w r ranges more o h l e = subst (IsIn d r) (sym h) (fit_in d f ranges r (at before i) more l e)
+
+node_in : (f : Format) (q : Quantity) (says : List Bool) (d low high : ℤ) (box ranges : List Range) (regs : List ℤ) (n : Node) (before : List ℤ) (w : ℤ) (more : List ℤ) (r : Range) → pos 0 <ℤ d → BoxIn d box regs
+    → IsGiven f d regs before (signal_of f q says (symbol_of_range (range low high)) n) w → LieOver d f ranges (node_shows before (signal_of f q says (symbol_of_range (range low high)) n) ++ more) → node_range (range low high) box ranges n ≡ Some r → IsIn d r w
+node_in f q says d low high box ranges regs Input before w more r o a h l e = input_in d low high w r e h
+node_in f q says d low high box ranges regs (Reg k) before w more r o a h l e = subst (IsIn d r) (sym h) (known_cases (nat_lt k (length box)) d box regs k r refl a e)
+node_in f q says d low high box ranges regs (MulConst c i) before w more r o a h l e = absurd (no_range r e)
+node_in f q says d low high box ranges regs (Round i) before w more r o a h l e = absurd (no_range r e)
+node_in f q says d low high box ranges regs (Add i j) before w more r o a h l e = absurd (no_range r e)
+node_in f q says d low high box ranges regs (Sub i j) before w more r o a h l e = absurd (no_range r e)
+node_in f q says d low high box ranges regs (Fit i) before w more r o a h l e = fit_given f q d regs before i w r ranges more o h l e
+node_in f q says d low high box ranges regs (Scale i) before w more r o a h l e = absurd (no_range r e)
 
 -- the ranges of the nodes after it
-later_in : (d : ℤ) (f : Format) (ranges : List Range) (n : Node) (before more : List ℤ) → LieOver d f ranges (node_exact before n ++ more) → LieOver d f (if is_fit n then drop 1 ranges else ranges) more
-later_in d f ranges Input before more l = l
-later_in d f ranges (Reg k) before more l = l
-later_in d f ranges (MulConst c i) before more l = l
-later_in d f ranges (Round i) before more l = l
-later_in d f ranges (Add i j) before more l = l
-later_in d f ranges (Sub i j) before more l = l
-later_in d f ranges (Fit i) before more l = rest_in d f ranges (at before i) more l
-later_in d f ranges (Scale i) before more l = l
+later_fit : (d : ℤ) (f : Format) (q : Quantity) (ranges : List Range) (i : ℕ) (before more : List ℤ) → LieOver d f ranges (node_shows before (shown_as q i) ++ more) → LieOver d f (drop 1 ranges) more
+later_fit d f quantity.Words ranges i before more l = rest_in d f ranges (at before i) more l
+later_fit d f quantity.Differences ranges i before more l = rest_in d f ranges (at before i) more l
 
-pub range_holds : (f : Format) (g : Quantity) (d low high x : ℤ) (box ranges : List Range) (regs : List ℤ) (ns : List Node) (before values : List ℤ) (i : ℕ) (r : Range) → IsOver g d → Between low high x → AreIn d box regs → AreGiven f g d regs x before ns values
-    → LieOver d f ranges (fitted_in before ns values) → range_in (range low high) box ranges ns i ≡ Some r → IsIn d r (at values i)
-range_holds f g d low high x box ranges regs [] before values i r o b a h l e = absurd (no_range r e)
-range_holds f g d low high x box ranges regs (n ∷ ns) before [] i r o b a h l e = absurd h
-range_holds f g d low high x box ranges regs (n ∷ ns) before (w ∷ values) zero r o b a h l e = node_in f g d low high x box ranges regs n before w (fitted_in (before ++ w ∷ []) ns values) r o b a h.0 l e
-range_holds f g d low high x box ranges regs (n ∷ ns) before (w ∷ values) (suc i) r o b a h l e =
-    range_holds f g d low high x box (if is_fit n then drop 1 ranges else ranges) regs ns (before ++ w ∷ []) values i r o b a h.1 (later_in d f ranges n before (fitted_in (before ++ w ∷ []) ns values) l) e
+later_in : (d : ℤ) (f : Format) (q : Quantity) (says : List Bool) (input : Range) (ranges : List Range) (n : Node) (before more : List ℤ) → LieOver d f ranges (node_shows before (signal_of f q says input n) ++ more) → LieOver d f (if is_fit n then drop 1 ranges else ranges) more
+later_in d f q says input ranges Input before more l = l
+later_in d f q says input ranges (Reg k) before more l = l
+later_in d f q says input ranges (MulConst c i) before more l = l
+later_in d f q says input ranges (Round i) before more l = l
+later_in d f q says input ranges (Add i j) before more l = l
+later_in d f q says input ranges (Sub i j) before more l = l
+later_in d f q says input ranges (Fit i) before more l = later_fit d f q ranges i before more l
+later_in d f q says input ranges (Scale i) before more l = l
+
+range_holds : (f : Format) (q : Quantity) (says : List Bool) (d low high : ℤ) (box ranges : List Range) (regs : List ℤ) (ns : List Node) (before values : List ℤ) (i : ℕ) (r : Range) → pos 0 <ℤ d → BoxIn d box regs → AreGiven f d regs before (signals f q says low high ns) values
+    → LieOver d f ranges (shown_in before (signals f q says low high ns) values) → range_in (range low high) box ranges ns i ≡ Some r → IsIn d r (at values i)
+range_holds f q says d low high box ranges regs [] before values i r o a h l e = absurd (no_range r e)
+range_holds f q says d low high box ranges regs (n ∷ ns) before [] i r o a h l e = absurd h
+range_holds f q says d low high box ranges regs (n ∷ ns) before (w ∷ values) zero r o a h l e = node_in f q says d low high box ranges regs n before w (shown_in (before ++ w ∷ []) (signals f q says low high ns) values) r o a h.0 l e
+range_holds f q says d low high box ranges regs (n ∷ ns) before (w ∷ values) (suc i) r o a h l e =
+    range_holds f q says d low high box (if is_fit n then drop 1 ranges else ranges) regs ns (before ++ w ∷ []) values i r o a h.1
+    (later_in d f q says (symbol_of_range (range low high)) ranges n before (shown_in (before ++ w ∷ []) (signals f q says low high ns) values) l) e
 
 -- ---- a box that is kept
 inside_cases : (p q : Bool) (d : ℤ) (r s : Range) (v : ℤ) → pos 0 ≤ℤ d → int_lt r.low s.low ≡ p → int_lt s.high r.high ≡ q → (not p && not q) ≡ true → IsIn d r v → IsIn d s v
@@ -150,7 +161,7 @@ kept_parts f input box ranges ns next rest i r e =
     record { words = and_left w p (and_left (w && p) q here); zero = and_right w p (and_left (w && p) q here); loaded = and_right (w && p) q here; after = and_right (w && p && q) s e }
 
 -- registers of zeros lie in it
-pub zeros_in : (f : Format) (d : ℤ) (input : Range) (box ranges : List Range) (ns : List Node) (next : List ℕ) (rest : List Range) → pos 0 ≤ℤ d → is_kept f input box ranges ns next rest ≡ true → AreIn d rest (zeros (length next))
+pub zeros_in : (f : Format) (d : ℤ) (input : Range) (box ranges : List Range) (ns : List Node) (next : List ℕ) (rest : List Range) → pos 0 ≤ℤ d → is_kept f input box ranges ns next rest ≡ true → BoxIn d rest (zeros (length next))
 zeros_in f d input box ranges ns [] [] u e = tt
 zeros_in f d input box ranges ns [] (r ∷ rest) u e = absurd cc
 zeros_in f d input box ranges ns (i ∷ next) [] u e = absurd cc
@@ -160,7 +171,7 @@ zeros_in f d input box ranges ns (i ∷ next) (r ∷ rest) u e =
 
 -- and those that are loaded
 loaded_in : (f : Format) (d : ℤ) (input : Range) (box ranges : List Range) (ns : List Node) (values : List ℤ) (next : List ℕ) (rest : List Range) → pos 0 ≤ℤ d → ((i : ℕ) (r : Range) → range_in input box ranges ns i ≡ Some r → IsIn d r (at values i))
-    → is_kept f input box ranges ns next rest ≡ true → AreIn d rest (map (at values) next)
+    → is_kept f input box ranges ns next rest ≡ true → BoxIn d rest (map (at values) next)
 loaded_in f d input box ranges ns values [] [] u h e = tt
 loaded_in f d input box ranges ns values [] (r ∷ rest) u h e = absurd cc
 loaded_in f d input box ranges ns values (i ∷ next) [] u h e = absurd cc
@@ -183,109 +194,54 @@ kept_words f input box ranges ns (i ∷ next) (r ∷ rest) e =
     let p = kept_parts f input box ranges ns next rest i r e in
     All-cons (λ r. are_words f r ≡ true) r rest p.words (kept_words f input box ranges ns next rest p.after)
 
--- ---- registers in the box are those of their symbols
--- a pass from there
-abbrev pub pass_of : Net → Quantity → ℤ → ℤ → List Range → Pass
-pass_of net g low high box = symbol_pass net g (map symbol_of_range box) (symbol_of_range (range low high))
-
-stand : (count : ℕ) (net : Net) (g : Quantity) (d low high : ℤ) (box : List Range) (regs : List ℤ) → IsOver g d → length box ≡ length net.next → AreIn d box regs → count ≤ length net.next → ((j : ℕ) → j < count → at regs j ≡ pos 0)
-    → Stands count net g d low high (pass_of net g low high box) regs
-stand count net g d low high box regs o long a few none =
-    let own = map symbol_of_range box in
-    let many = length-map box symbol_of_range in
-    let nothing = range (pos 0) (pos 0) in
-    registers_stand count net g d low high own regs o (many ∙ long) (in_long d box regs a ∙ long)
-    (λ j l. let inside : j < length box = omega (arith, l, many) in
-    subst (λ (r : Range). meaning.LiesIn d r (at regs j)) (sym (get_or-map symbol_of_range box j nothing nothing inside)) (symbol_lies d (range_at box j) (at regs j) (in_at d box regs j a inside)))
-    few none
+-- ---- registers in the box are in the ranges of their symbols
+pub box_symbols : (d : ℤ) (box : List Range) (regs : List ℤ) → BoxIn d box regs → AreIn d (map symbol_of_range box) regs
+box_symbols d [] [] a = tt
+box_symbols d [] (v ∷ vs) a = absurd a
+box_symbols d (r ∷ box) [] a = absurd a
+box_symbols d (r ∷ box) (v ∷ vs) a = (symbol_lies d r v a.0, box_symbols d box vs a.1)
 
 -- ---- the induction
+-- the network of a netlist, where inputs are from low to high
+abbrev pub network : Net → Quantity → ℤ → ℤ → Network
+network net q low high = network_of net q (symbol_of_range (range low high))
+
 -- from here on, from registers in the box
-pub record IsRun (net : Net) (g : Quantity) (d low high : ℤ) (box : List Range) (samples : List (List ℤ)) : Type 0 where
+pub record IsRun (net : Net) (q : Quantity) (d low high : ℤ) (box : List Range) (samples : List (List ℤ)) : Type 0 where
   pub regs : List ℤ
-  pub xs : List ℤ
-  pub given : RunsGiven net g d regs xs samples
-  pub in_range : All (Between low high) xs
-  pub inside : AreIn d box regs
-
--- the step of a run from registers in the box
-record IsStep (net : Net) (g : Quantity) (d low high : ℤ) (box : List Range) (values : List ℤ) (samples : List (List ℤ)) : Type 0 where
-  regs : List ℤ
-  x : ℤ
-  xs : List ℤ
-  here : AreGiven net.format g d regs x [] net.nodes values
-  rest : RunsGiven net g d (map (at values) net.next) xs samples
-  between : Between low high x
-  in_range : All (Between low high) xs
-  inside : AreIn d box regs
-
-step_from : (net : Net) (g : Quantity) (d low high : ℤ) (box : List Range) (values : List ℤ) (samples : List (List ℤ)) (regs xs : List ℤ) → RunsGiven net g d regs xs (values ∷ samples) → All (Between low high) xs → AreIn d box regs → IsStep net g d low high box values samples
-step_from net g d low high box values samples regs [] h a i = absurd h
-step_from net g d low high box values samples regs (x ∷ xs) h a i =
-    record { regs = regs; x = x; xs = xs; here = h.0; rest = h.1; between = All-head (Between low high) x xs a; in_range = All-tail (Between low high) x xs a; inside = i }
-
-step_of : {net : Net} {g : Quantity} {d low high : ℤ} {box : List Range} {values : List ℤ} {samples : List (List ℤ)} → IsRun net g d low high box (values ∷ samples) → IsStep net g d low high box values samples
-step_of {net} {g} {d} {low} {high} {box} {values} {samples} r = step_from net g d low high box values samples r.regs r.xs r.given r.in_range r.inside
+  pub given : RunsGiven (network net q low high) d regs samples
+  pub inside : BoxIn d box regs
 
 -- what a node gives lies in its range
-pub given_in : (net : Net) (g : Quantity) (d low high : ℤ) (box ranges : List Range) (values : List ℤ) (samples : List (List ℤ)) (i : ℕ) (r : Range) → IsOver g d → IsRun net g d low high box (values ∷ samples) → LiesIn net d ranges values
+pub given_in : (net : Net) (q : Quantity) (d low high : ℤ) (box ranges : List Range) (values : List ℤ) (samples : List (List ℤ)) (i : ℕ) (r : Range) → pos 0 <ℤ d → IsRun net q d low high box (values ∷ samples) → ShowsIn (network net q low high) d ranges values
     → range_in (range low high) box ranges net.nodes i ≡ Some r → IsIn d r (at values i)
-given_in net g d low high box ranges values samples i r o run l e =
-    let s = step_of run in
-    range_holds net.format g d low high s.x box ranges s.regs net.nodes [] values i r o s.between s.inside s.here l e
+given_in net q d low high box ranges values samples i r o run l e = range_holds net.format q (multiples_of net.format net.nodes) d low high box ranges run.regs net.nodes [] values i r o run.inside run.given.0 l e
 
 -- what the registers are loaded with lies in the box again
-pub next_inside : (net : Net) (g : Quantity) (d low high : ℤ) (box ranges : List Range) (values : List ℤ) (samples : List (List ℤ)) → IsOver g d → is_kept net.format (range low high) box ranges net.nodes net.next box ≡ true
-    → IsRun net g d low high box (values ∷ samples) → LiesIn net d ranges values → AreIn d box (map (at values) net.next)
-next_inside net g d low high box ranges values samples o k run l =
-    loaded_in net.format d (range low high) box ranges net.nodes values net.next box (over_positive g d o) (λ i r e. given_in net g d low high box ranges values samples i r o run l e) k
+pub next_inside : (net : Net) (q : Quantity) (d low high : ℤ) (box ranges : List Range) (values : List ℤ) (samples : List (List ℤ)) → pos 0 <ℤ d → is_kept net.format (range low high) box ranges net.nodes net.next box ≡ true
+    → IsRun net q d low high box (values ∷ samples) → ShowsIn (network net q low high) d ranges values → BoxIn d box (map (at values) net.next)
+next_inside net q d low high box ranges values samples o k run l =
+    loaded_in net.format d (range low high) box ranges net.nodes values net.next box (not_below d o) (λ i r e. given_in net q d low high box ranges values samples i r o run l e) k
 
-pub run_next : (net : Net) (g : Quantity) (d low high : ℤ) (box ranges : List Range) (values : List ℤ) (samples : List (List ℤ)) → IsOver g d → is_kept net.format (range low high) box ranges net.nodes net.next box ≡ true
-    → IsRun net g d low high box (values ∷ samples) → LiesIn net d ranges values → IsRun net g d low high box samples
-run_next net g d low high box ranges values samples o k run l =
-    let s = step_of run in
-    record { regs = map (at values) net.next; xs = s.xs; given = s.rest; in_range = s.in_range; inside = next_inside net g d low high box ranges values samples o k run l }
+pub run_next : (net : Net) (q : Quantity) (d low high : ℤ) (box ranges : List Range) (values : List ℤ) (samples : List (List ℤ)) → pos 0 <ℤ d → is_kept net.format (range low high) box ranges net.nodes net.next box ≡ true
+    → IsRun net q d low high box (values ∷ samples) → ShowsIn (network net q low high) d ranges values → IsRun net q d low high box samples
+run_next net q d low high box ranges values samples o k run l =
+    record { regs = map (at values) net.next; given = run.given.1; inside = next_inside net q d low high box ranges values samples o k run l }
 
--- what a pass from the box shows: the ranges of all runs from zeros up to a sample, and those of that sample after any registers in the box
-pub record IsPassed (net : Net) (n : ℕ) (pass : Pass) (seen : Option (List Range)) (ranges : List Range) : Type 0 where
-  pub all : List Range
-  pub last : List Range
-  pub run_is : run_ends (length net.next) net n pass seen ≡ Some all
-  pub step_is : later_words 0 net n pass ≡ Some last
-  pub ranges_are : hulls all last ≡ ranges
+-- from zeros
+abbrev pub begun : (net : Net) (q : Quantity) (d low high : ℤ) (box ranges : List Range) (samples : List (List ℤ)) → pos 0 <ℤ d → is_kept net.format (range low high) box ranges net.nodes net.next box ≡ true → RunsGiven (network net q low high) d (zeros (length net.next)) samples
+    → IsRun net q d low high box samples
+begun net q d low high box ranges samples o kept given =
+    record { regs = zeros (length net.next); given = given; inside = zeros_in net.format d (range low high) box ranges net.nodes net.next box (not_below d o) kept }
 
-pub front_part : {X : Type 0} (P : X → Type 0) (n : ℕ) (xs : List X) → All P (take (suc n) xs) → All P (take n xs)
-front_part P zero [] a = All-nil P
-front_part P (suc n) [] a = All-nil P
-front_part P zero (x ∷ xs) a = All-nil P
-front_part P (suc n) (x ∷ xs) a = All-cons P x (take n xs) (All-head P x (take (suc n) xs) a) (front_part P n xs (All-tail P x (take (suc n) xs) a))
-
--- where these ranges keep the box, they hold in every run from zeros, as far as a sample and then in each after it
-pub box_held : (net : Net) (g : Quantity) (d low high : ℤ) (n : ℕ) (box ranges : List Range) (xs : List ℤ) (samples : List (List ℤ)) → IsOver g d → IsPassed net n (pass_of net g low high box) None ranges
-    → is_kept net.format (range low high) box ranges net.nodes net.next box ≡ true → All (Between low high) xs → RunsGiven net g d (zeros (length net.next)) xs samples → All (LiesIn net d ranges) samples
-box_held net g d low high n box ranges xs samples o it kept inputs given =
-    let f = net.format in
-    let input = range low high in
-    let up = over_positive g d o in
-    let pass = pass_of net g low high box in
-    let count = length net.next in
-    let start = zeros count in
-    let first = run_are count net n pass None it.all refl tt it.run_is in
-    let last = after_are 0 net n pass it.last refl it.step_is in
-    let long : length it.all ≡ length it.last = first.many ∙ sym last.many in
-    let all = hulls it.all it.last in
-    let Q = LiesIn net d all in
-    let fitted = fitted_in [] net.nodes in
-    let k = subst (λ (rs : List Range). is_kept f input box rs net.nodes net.next box ≡ true) (sym it.ranges_are) kept in
-    let same = kept_long f input box all net.nodes net.next box k in
-    let begin = zeros_in f d input box all net.nodes net.next box up k in
-    let lies = run_lies count net g d low high n xs samples pass start None it.all refl inputs tt it.run_is given
-    (stand count net g d low high box start o same begin (omega arith) (λ j l. replicated count j (pos 0) (pos 0) l)) in
-    let begun = All-weaker (LiesIn net d it.all) Q (λ values q. hulls_left d f it.all it.last (fitted values) up long q last.words) (take (suc n) samples) lies in
-    let always = all_have (IsRun net g d low high box) Q n
-    (λ values rest r q. run_next net g d low high box all values rest o k r q)
-    (λ rest r q. next_has 0 net g d low high Q n r.xs rest pass r.regs it.last r.in_range
-    (λ values l. lie_fits g d f all (fitted values) o l) (λ values l. hulls_right d f it.all it.last (fitted values) up long first.words l) it.step_is
-    r.given (stand 0 net g d low high box r.regs o same r.inside (omega arith) (λ j l. absurd (omega arith))) q)
-    samples (record { regs = start; xs = xs; given = given; in_range = inputs; inside = begin }) (front_part Q n samples begun) in
-    subst (λ (rs : List Range). All (LiesIn net d rs) samples) it.ranges_are always
+-- where these ranges keep the box, they hold in every run from zeros
+pub box_held : (net : Net) (q : Quantity) (d low high : ℤ) (box ranges : List Range) (samples : List (List ℤ)) → pos 0 <ℤ d → HoldAlways (network net q low high) (map symbol_of_range box) ranges
+    → is_kept net.format (range low high) box ranges net.nodes net.next box ≡ true → RunsGiven (network net q low high) d (zeros (length net.next)) samples → All (ShowsIn (network net q low high) d ranges) samples
+box_held net q d low high box ranges samples o holds kept given =
+    let run = begun net q d low high box ranges samples o kept given in
+    holds d o (IsRun net q d low high box) (record {
+      registers = λ rest r. r.regs;
+      given = λ rest r. r.given;
+      inside = λ rest r. box_symbols d box r.regs r.inside;
+      next = λ values rest r l. run_next net q d low high box ranges values rest o kept r l;
+    }) (box_symbols d box run.regs run.inside) samples run given

@@ -1,114 +1,65 @@
--- The gain of the first pass is found again by as many samples as its depth, and one more.
-use Rattle.std.proofs.Common.{◌≡◌, ℕ, zero, suc, ◌+◌, ◌≤◌, Bool, true, false, arith, List, length, refl, ap}
-use Rattle.std.specs.Prelude.{Option, Some, None}
-use Rattle.std.proofs.Math.IntN.{ℤ}
-use Rattle.dsv_netlist.specs.Nodes.{Net}
-use Rattle.dsv_netlist.specs.declared.node.Node.{Node}
-use Rattle.dsv_linear.specs.declared.range.Range.{Range}
-use Rattle.dsv_gain.specs.declared.pass.Pass.{Pass}
-use Rattle.dsv_gain.specs.declared.outlook.Gain.{Gain}
-use Rattle.dsv_gain.specs.declared.outlook.Outlook.{Outlook}
-use Rattle.dsv_gain.specs.declared.outlook.Outlook.TheVariants as outlook
-use Rattle.dsv_gain.specs.declared.ends.Ends.{Ends}
-use Rattle.dsv_gain.specs.declared.ends.Ends.TheVariants as shown
-use Rattle.dsv_gain.specs.declared.search.Search.{Search}
-use Rattle.dsv_gain.specs.Samples.{pass_ends, after_pass}
-use Rattle.dsv_gain.specs.Gains.{hulls, hulls_after, has_settled, best_or, gain_at, search, step_turn, run_turn, turn_outlook, gain_from, word_pass, first_gain}
-use Rattle.dsv_gain.proofs.Gains.{same_gain}
-
--- ---- how deep
--- a gain has the depth of the best so far, or one from this sample on
-abbrev pub DepthFrom : ℕ → Option Gain → Gain → Type 0
-DepthFrom sample None gain = sample ≤ gain.depth
-DepthFrom sample (Some best) gain = best.depth ≡ gain.depth
-
-best_deep : (other : Outlook) (sample : ℕ) (best : Option Gain) (gain : Gain) → (other ≡ outlook.Safe gain → ⊥) → best_or other best ≡ outlook.Safe gain → DepthFrom sample best gain
-best_deep other sample None gain n h = absurd (n h)
-best_deep other sample (Some g) gain n h = ap (λ (x : Gain). x.depth) (same_gain g gain h)
-
-gain_deep : (sample : ℕ) (best : Option Gain) (ranges : List Range) (gain : Gain) → gain_at sample best ranges ≡ gain → DepthFrom sample best gain
-gain_deep sample None ranges gain e = let f : sample ≡ gain.depth = ap (λ (x : Gain). x.depth) e in omega (arith, f)
-gain_deep sample (Some g) ranges gain e = ap (λ (x : Gain). x.depth) e
-
-kept_deep : (sample : ℕ) (best : Option Gain) (ranges : List Range) (gain : Gain) → DepthFrom (suc sample) (Some (gain_at sample best ranges)) gain → DepthFrom sample best gain
-kept_deep sample None ranges gain e = omega (arith, e)
-kept_deep sample (Some g) ranges gain e = e
-
-later_deep : (sample : ℕ) (best : Option Gain) (gain : Gain) → DepthFrom (suc sample) best gain → DepthFrom sample best gain
-later_deep sample None gain h = omega (arith, h)
-later_deep sample (Some g) gain h = h
-
-step_deep : (settled : Bool) (sample : ℕ) (next : Search → Outlook) (pass : Pass) (seen : List Range) (best : Option Gain) (e : Ends) (gain : Gain)
-    → ((s : Search) → next s ≡ outlook.Safe gain → DepthFrom (suc sample) s.best gain) → turn_outlook next (step_turn settled sample pass seen best e) ≡ outlook.Safe gain → DepthFrom sample best gain
-step_deep settled sample next pass seen best (shown.Leaves value) gain rest h = later_deep sample best gain (rest (search pass seen best) h)
-step_deep true sample next pass seen best (shown.Words last) gain rest h = gain_deep sample best (hulls seen last) gain (same_gain (gain_at sample best (hulls seen last)) gain h)
-step_deep false sample next pass seen best (shown.Words last) gain rest h =
-    kept_deep sample best (hulls seen last) gain (rest (search pass seen (Some (gain_at sample best (hulls seen last)))) h)
-
-run_deep : (nodes : List Node) (next : List ℕ) (sample : ℕ) (after : Search → Outlook) (s : Search) (e : Ends) (gain : Gain) → ((l : Search) → after l ≡ outlook.Safe gain → DepthFrom (suc sample) l.best gain)
-    → turn_outlook after (run_turn sample s.seen s.best (λ seen. step_turn (has_settled nodes (after_pass nodes next s.pass)) sample (after_pass nodes next s.pass) seen s.best (pass_ends 0 nodes s.pass)) e) ≡ outlook.Safe gain → DepthFrom sample s.best gain
-run_deep nodes next sample after s (shown.Leaves value) gain rest h = best_deep (outlook.Leaves sample value) sample s.best gain (λ q. absurd cc) h
-run_deep nodes next sample after s (shown.Words now) gain rest h =
-    step_deep (has_settled nodes (after_pass nodes next s.pass)) sample after (after_pass nodes next s.pass) (hulls_after s.seen now) s.best (pass_ends 0 nodes s.pass) gain rest h
-
-pub deep_from : (nodes : List Node) (next : List ℕ) (left sample : ℕ) (s : Search) (gain : Gain) → gain_from nodes next left sample s ≡ outlook.Safe gain → DepthFrom sample s.best gain
-deep_from nodes next zero sample s gain h = best_deep outlook.Deep sample s.best gain (λ q. absurd cc) h
-deep_from nodes next (suc left) sample s gain h =
-    run_deep nodes next sample (gain_from nodes next left (suc sample)) s (pass_ends (length next) nodes s.pass) gain (λ l q. deep_from nodes next left (suc sample) l gain q) h
-
--- ---- found again
-abbrev pub IsSafe : Outlook → Type 0
-IsSafe found = (g : Gain) × (found ≡ outlook.Safe g)
-
--- before anything was found
-abbrev pub unfound : Pass → Option (List Range) → Search
-unfound pass seen = record { pass = pass; seen = seen; best = None }
-
-step_again : (settled : Bool) (sample : ℕ) (next short : Search → Outlook) (pass : Pass) (seen : List Range) (e : Ends) (gain : Gain)
-    → ((s : Search) → next s ≡ outlook.Safe gain → DepthFrom (suc sample) s.best gain)
-    → ((s : Search) → sample ≡ gain.depth → short s ≡ best_or outlook.Deep s.best)
-    → (next (unfound pass (Some seen)) ≡ outlook.Safe gain → IsSafe (short (unfound pass (Some seen))))
-    → turn_outlook next (step_turn settled sample pass seen None e) ≡ outlook.Safe gain → IsSafe (turn_outlook short (step_turn settled sample pass seen None e))
-step_again settled sample next short pass seen (shown.Leaves value) gain deep last rest h = rest h
-step_again true sample next short pass seen (shown.Words ranges) gain deep last rest h = (gain_at sample None (hulls seen ranges), refl)
-step_again false sample next short pass seen (shown.Words ranges) gain deep last rest h =
-    let new = gain_at sample None (hulls seen ranges) in
-    let s = search pass seen (Some new) in
-    (new, last s (deep s h))
-
-pub no_leaving : (sample value : ℕ) (gain : Gain) → outlook.Leaves sample value ≡ outlook.Safe gain → ⊥
-no_leaving sample value gain h = cc
-
-pub not_deep : (gain : Gain) → outlook.Deep ≡ outlook.Safe gain → ⊥
-not_deep gain h = cc
-
-run_again : (nodes : List Node) (next : List ℕ) (sample : ℕ) (after short : Search → Outlook) (pass : Pass) (seen : Option (List Range)) (e : Ends) (gain : Gain)
-    → ((s : Search) → after s ≡ outlook.Safe gain → DepthFrom (suc sample) s.best gain)
-    → ((s : Search) → sample ≡ gain.depth → short s ≡ best_or outlook.Deep s.best)
-    → ((pass : Pass) (seen : List Range) → after (unfound pass (Some seen)) ≡ outlook.Safe gain → IsSafe (short (unfound pass (Some seen))))
-    → turn_outlook after (run_turn sample seen None (λ all. step_turn (has_settled nodes (after_pass nodes next pass)) sample (after_pass nodes next pass) all None (pass_ends 0 nodes pass)) e) ≡ outlook.Safe gain
-    → IsSafe (turn_outlook short (run_turn sample seen None (λ all. step_turn (has_settled nodes (after_pass nodes next pass)) sample (after_pass nodes next pass) all None (pass_ends 0 nodes pass)) e))
-run_again nodes next sample after short pass seen (shown.Leaves value) gain deep last rest h = absurd (no_leaving sample value gain h)
-run_again nodes next sample after short pass seen (shown.Words now) gain deep last rest h =
-    step_again (has_settled nodes (after_pass nodes next pass)) sample after short (after_pass nodes next pass) (hulls_after seen now) (pass_ends 0 nodes pass) gain deep last
-    (rest (after_pass nodes next pass) (hulls_after seen now)) h
-
--- no sample is left where the depth is reached
-last_of : (nodes : List Node) (next : List ℕ) (sample k : ℕ) (gain : Gain) (s : Search) → gain.depth + 1 ≡ sample + suc k → sample ≡ gain.depth → gain_from nodes next k (suc sample) s ≡ best_or outlook.Deep s.best
-last_of nodes next sample zero gain s e f = refl
-last_of nodes next sample (suc k) gain s e f = absurd (omega (arith, e, f))
-
-again_from : (nodes : List Node) (next : List ℕ) (left sample k : ℕ) (pass : Pass) (seen : Option (List Range)) (gain : Gain) → gain.depth + 1 ≡ sample + k
-    → gain_from nodes next left sample (unfound pass seen) ≡ outlook.Safe gain → IsSafe (gain_from nodes next k sample (unfound pass seen))
-again_from nodes next zero sample k pass seen gain e h = absurd (not_deep gain h)
-again_from nodes next (suc left) sample zero pass seen gain e h =
-    let d : sample ≤ gain.depth = deep_from nodes next (suc left) sample (unfound pass seen) gain h in absurd (omega (arith, d, e))
-again_from nodes next (suc left) sample (suc k) pass seen gain e h =
-    run_again nodes next sample (gain_from nodes next left (suc sample)) (gain_from nodes next k (suc sample)) pass seen (pass_ends (length next) nodes pass) gain
-    (λ s q. deep_from nodes next left (suc sample) s gain q) (λ s f. last_of nodes next sample k gain s e f)
-    (λ p all q. again_from nodes next left (suc sample) k p (Some all) gain (omega (arith, e)) q) h
+-- The depth of the first pass.
+use Rattle.std.proofs.Common.{◌≡◌, ℕ, zero, suc, List, [], ◌∷◌, take, sym, subst, arith}
+use Rattle.std.specs.List.{All}
+use Rattle.std.proofs.Math.IntN.{ℤ, pos}
+use Rattle.std.proofs.lemmas.Int.{ints}
+use Rattle.std.proofs.lemmas.List.Elements.{All-head, All-tail, All-nil, All-cons, All-weaker}
+use Rattle.dsv_word.specs.Words.{IsWord}
+use Rattle.dsv_system.specs.Breaks.{IsInside}
+use Rattle.dsv_system.specs.Runs.{row_at, rows_from}
+use Rattle.dsv_system.specs.Systems.{AreInRange}
+use Rattle.dsv_netlist.specs.Nodes.{Net, sample_of, step_of}
+use Rattle.dsv_netlist.specs.Conditions.{IsNetlist}
+use Rattle.dsv_linear.specs.Forms.{range}
+use Rattle.dsv_linear.proofs.Runs.{all_between}
+use Rattle.dsv_network.specs.declared.outlook.Gain.{Gain}
+use Rattle.dsv_network.specs.declared.outlook.Outlook.TheVariants as outlook
+use Rattle.dsv_network.specs.Runs.{Fits}
+use Rattle.dsv_network.specs.Laws.{AreFit}
+use Rattle.dsv_network.proofs.Depths.{IsSafe}
+use Rattle.dsv_network.proofs.Depths as depths
+use Rattle.dsv_network.proofs.Forgetting as forgetting
+use Rattle.dsv_gain.specs.Gains.{symbol_of_range, register_symbols, words_network, first_gain}
+use Rattle.dsv_gain.specs.Safe.{AreRegisters, AreInsideFor}
+use Rattle.dsv_gain.proofs.Values.{word_fits, fits_word}
+use Rattle.dsv_gain.proofs.WordRuns.{exact_is, values_over, run_given}
+use Rattle.dsv_gain.proofs.Symbols.{symbols_long, registers_in, inputs_lie}
 
 pub first_found_again : (net : Net) (low high : ℤ) (limit : ℕ) (gain : Gain) → first_gain net low high limit ≡ outlook.Safe gain → IsSafe (first_gain net low high (suc gain.depth))
 unfolding first_gain
-first_found_again net low high limit gain h =
-    again_from net.nodes net.next limit 0 (suc gain.depth) (word_pass net low high) None gain (omega arith) h
+first_found_again net low high limit gain h = depths.found_again (words_network net low high) (register_symbols net low high) limit gain h
+
+-- ---- rows and the values of nodes
+fits_all : (net : Net) (low high : ℤ) (words xs : List ℤ) (n : ℕ) → All (IsInside net.format) (take n (rows_from (step_of net) words xs)) → All (AreFit (words_network net low high) (pos 1)) (take n (values_over net words xs))
+fits_all net low high words xs zero a = All-nil (AreFit (words_network net low high) (pos 1))
+fits_all net low high words [] (suc n) a = All-nil (AreFit (words_network net low high) (pos 1))
+fits_all net low high words (x ∷ xs) (suc n) a =
+    let step = step_of net words x in
+    let rest = take n (rows_from (step_of net) step.past xs) in
+    let values = (sample_of net.format words x net.nodes).values in
+    let Q = Fits net.format (pos 1) in
+    All-cons (AreFit (words_network net low high) (pos 1)) values (take n (values_over net step.past xs))
+    (subst (All Q) (sym (exact_is net.format (symbol_of_range (range low high)) words x net.nodes)) (All-weaker (IsWord net.format) Q (λ v w. word_fits net.format v w) step.exact (All-head (IsInside net.format) (row_at step x) rest a)))
+    (fits_all net low high step.past xs n (All-tail (IsInside net.format) (row_at step x) rest a))
+
+inside_all : (net : Net) (low high : ℤ) (words xs : List ℤ) (n : ℕ) → All (AreFit (words_network net low high) (pos 1)) (take n (values_over net words xs)) → All (IsInside net.format) (take n (rows_from (step_of net) words xs))
+inside_all net low high words xs zero a = All-nil (IsInside net.format)
+inside_all net low high words [] (suc n) a = All-nil (IsInside net.format)
+inside_all net low high words (x ∷ xs) (suc n) a =
+    let step = step_of net words x in
+    let rest = take n (values_over net step.past xs) in
+    let values = (sample_of net.format words x net.nodes).values in
+    let Q = Fits net.format (pos 1) in
+    let fit = AreFit (words_network net low high) (pos 1) in
+    All-cons (IsInside net.format) (row_at step x) (take n (rows_from (step_of net) step.past xs))
+    (All-weaker Q (IsWord net.format) (λ v b. fits_word net.format v b) step.exact (subst (All Q) (exact_is net.format (symbol_of_range (range low high)) words x net.nodes) (All-head fit values rest a)))
+    (inside_all net low high step.past xs n (All-tail fit values rest a))
+
+-- ---- the law
+pub first_forgets : (net : Net) (low high : ℤ) (limit : ℕ) (gain : Gain) → IsNetlist net → IsWord net.format low → IsWord net.format high → first_gain net low high limit ≡ outlook.Safe gain
+    → (registers xs : List ℤ) → AreRegisters net low high registers → AreInRange low high xs → AreInsideFor net registers xs gain.depth → AreInsideFor net registers xs (suc gain.depth)
+unfolding first_gain
+first_forgets net low high limit gain n l h e registers xs r a inside =
+    inside_all net low high registers xs (suc gain.depth)
+    (forgetting.depths_forget (words_network net low high) (register_symbols net low high) limit gain e (symbols_long net low high n) (pos 1) (omega (arith, ints)) registers (values_over net registers xs) (registers_in net low high registers n r)
+    (run_given net (symbol_of_range (range low high)) registers xs (inputs_lie low high xs (all_between low high xs a))) (fits_all net low high registers xs gain.depth inside))

@@ -10,9 +10,9 @@ use Rattle.dsv_system.specs.Runs.{SampleRow}
 use Rattle.dsv_system.specs.Systems.{Behaviour, Agree, zeros}
 use Rattle.dsv_linear.specs.declared.range.Range.{Range}
 use Rattle.dsv_system.proofs.Agreeing.{agree_back, breaks_agree, zero_rows}
-use Rattle.dsv_gain.specs.declared.outlook.Gain.{Gain}
-use Rattle.dsv_gain.specs.declared.outlook.Outlook.{Outlook}
-use Rattle.dsv_gain.specs.declared.outlook.Outlook.TheVariants as outlook
+use Rattle.dsv_network.specs.declared.outlook.Gain.{Gain}
+use Rattle.dsv_network.specs.declared.outlook.Outlook.{Outlook}
+use Rattle.dsv_network.specs.declared.outlook.Outlook.TheVariants as outlook
 use Rattle.dsv_gain.specs.Safe.{LieWithin, HoldsBy, NeverBy, IfSafe}
 
 -- ---- behaviours that agree

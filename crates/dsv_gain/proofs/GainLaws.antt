@@ -6,15 +6,17 @@ use Rattle.dsv_base.specs.declared.NoMemory.{NoMemory}
 use Rattle.dsv_word.specs.Words.{IsWord}
 use Rattle.dsv_netlist.specs.Nodes.{Net}
 use Rattle.dsv_netlist.specs.Conditions.{IsNetlist}
-use Rattle.dsv_gain.specs.declared.outlook.Gain.{Gain}
-use Rattle.dsv_gain.specs.declared.outlook.Outlook.{Outlook}
-use Rattle.dsv_gain.specs.declared.outlook.Outlook.TheVariants as outlook
+use Rattle.dsv_network.specs.declared.outlook.Gain.{Gain}
+use Rattle.dsv_network.specs.declared.outlook.Outlook.{Outlook}
+use Rattle.dsv_network.specs.declared.outlook.Outlook.TheVariants as outlook
+use Rattle.dsv_network.specs.Laws.{IsWithin}
 use Rattle.dsv_gain.specs.Gains.{first_gain}
 use Rattle.dsv_gain.specs.Narrowing.{narrowed, most_passes, with_narrowed, gain_of}
-use Rattle.dsv_gain.specs.Safe.{HoldInRuns, NeverBreaks, IfSafe, IsWithin, GainsAreSafe, GainsAreFoundAgain, AreInsideFor, DepthsForgetStarts}
-use Rattle.dsv_gain.proofs.Gains.{same_gain, first_safe, first_within, none_breaks}
-use Rattle.dsv_gain.proofs.Depths.{IsSafe, no_leaving, not_deep, first_found_again}
-use Rattle.dsv_gain.proofs.Forgetting.{first_forgets}
+use Rattle.dsv_gain.specs.Safe.{HoldInRuns, NeverBreaks, IfSafe, GainsAreSafe, GainsAreFoundAgain, AreInsideFor, DepthsForgetStarts}
+use Rattle.dsv_network.proofs.Finds.{same_gain}
+use Rattle.dsv_network.proofs.Depths.{IsSafe, no_leaving, not_deep}
+use Rattle.dsv_gain.proofs.Gains.{first_safe, first_within, none_breaks}
+use Rattle.dsv_gain.proofs.Depths.{first_found_again, first_forgets}
 use Rattle.dsv_gain.proofs.Narrowed.{narrowed_safe}
 
 -- the gain of the first pass, of which this one has the depth and the narrowed ranges

@@ -1,18 +1,8 @@
-mod Given
 mod Values
-mod Masses
-mod Bounds
-mod Widening
-mod Walks
-mod Solutions
-mod Rounded
-mod Nodes
-mod Walking
-mod Hulls
-mod Passes
 mod WordRuns
 mod Pasts
 mod Symbols
+mod PastLoops
 mod BoxRuns
 mod Gains
 mod BoxLoops
@@ -20,9 +10,8 @@ mod ErrorLoops
 pub mod Errors
 pub mod Near
 mod Depths
-mod Forgetting
 mod Narrowed
 pub mod GainLaws
-mod Loops
+mod FirstPass
 mod NarrowingLoops
 pub mod Equations

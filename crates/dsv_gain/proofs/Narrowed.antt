@@ -1,8 +1,9 @@
 -- The ranges that passes from boxes show hold in every run.
-use Rattle.std.proofs.Common.{◌≡◌, ℕ, zero, suc, inl, inr, Bool, true, false, if◌then◌else◌, List, [], ◌∷◌, length, map, refl, sym, subst, ap, ◌∙◌}
+use Rattle.std.proofs.Common.{◌≡◌, ℕ, zero, suc, Bool, true, false, if◌then◌else◌, List, [], ◌∷◌, length, map, refl, sym, subst, ap, ◌∙◌, arith}
 use Rattle.std.specs.Prelude.{Option, Some, None, int_lt}
 use Rattle.std.specs.List.{All}
 use Rattle.std.proofs.Math.IntN.{ℤ, pos, ◌*ℤ◌}
+use Rattle.std.proofs.lemmas.Int.{ints}
 use Rattle.std.proofs.lemmas.List.Elements.{All-head, All-tail, All-nil, All-cons}
 use lib.Signed.{◌≤ℤ◌}
 use Rattle.dsv_algebra.specs.Narrow.{narrow_of}
@@ -16,18 +17,19 @@ use Rattle.dsv_linear.specs.declared.range.Range.{Range}
 use Rattle.dsv_linear.specs.Forms.{◌>>=◌, range_scale, range, scaled_range}
 use Rattle.dsv_linear.proofs.Numbers.{some_of, narrow_is}
 use Rattle.dsv_linear.proofs.Runs.{all_between}
-use Rattle.dsv_roundoff.specs.Differences.{multiples_of}
-use Rattle.dsv_gain.specs.declared.pass.Quantity.TheVariants as quantity
-use Rattle.dsv_gain.specs.declared.outlook.Gain.{Gain}
-use Rattle.dsv_gain.specs.declared.outlook.Outlook.{Outlook}
-use Rattle.dsv_gain.specs.declared.outlook.Outlook.TheVariants as outlook
-use Rattle.dsv_gain.specs.Gains.{symbol_of_range, gain_from}
+use Rattle.dsv_network.specs.declared.outlook.Gain.{Gain}
+use Rattle.dsv_network.specs.declared.outlook.Outlook.{Outlook}
+use Rattle.dsv_network.specs.declared.outlook.Outlook.TheVariants as outlook
+use Rattle.dsv_network.specs.Gains as networks
+use Rattle.dsv_network.proofs.Finds.{gain_holds}
+use Rattle.dsv_gain.specs.declared.networks.Quantity.TheVariants as quantity
+use Rattle.dsv_gain.specs.Gains.{symbol_of_range, words_network}
 use Rattle.dsv_gain.specs.Boxes.{is_kept}
-use Rattle.dsv_gain.specs.Narrowing.{all_of, starts_of, box_search, kept_ranges, box_ranges, meet, meets, are_narrower, more_known, narrower_ranges, or_else, narrowed}
+use Rattle.dsv_gain.specs.Narrowing.{all_of, starts_of, kept_ranges, box_ranges, meet, meets, are_narrower, more_known, narrower_ranges, or_else, narrowed}
 use Rattle.dsv_gain.specs.Safe.{LieWithin, HoldInRuns}
 use Rattle.dsv_gain.proofs.WordRuns.{values_over, run_given, rows_lie}
 use Rattle.dsv_gain.proofs.BoxRuns.{box_held}
-use Rattle.dsv_gain.proofs.Gains.{none_some, finds}
+use Rattle.dsv_gain.proofs.Symbols.{inputs_lie}
 
 -- ---- the symbols of a box
 -- what is made of each is what is made of all
@@ -64,19 +66,18 @@ kept_cases net input box (outlook.Safe gain) ranges e = safe_cases (is_kept net.
 kept_cases net input box (outlook.Leaves sample value) ranges e = absurd cc
 kept_cases net input box outlook.Deep ranges e = absurd cc
 
-kept_safe : (net : Net) (low high : ℤ) (limit : ℕ) (box : List Range) (gain : Gain) → gain_from net.nodes net.next limit 0 (box_search net low high (map symbol_of_range box)) ≡ outlook.Safe gain
+kept_safe : (net : Net) (low high : ℤ) (limit : ℕ) (box : List Range) (gain : Gain) → networks.gain_of (words_network net low high) (map symbol_of_range box) limit ≡ outlook.Safe gain
     → is_kept net.format (range low high) box gain.ranges net.nodes net.next box ≡ true → HoldInRuns net low high gain.ranges
 kept_safe net low high limit box gain e k xs a =
-    let g = quantity.Words (multiples_of net.format net.nodes) in
     let start = zeros (length net.next) in
-    elim (finds net limit 0 (box_search net low high (map symbol_of_range box)) gain e) [
-      | inl q ↦ absurd (none_some gain q)
-      | inr d ↦ rows_lie net gain.ranges start xs (box_held net g (pos 1) low high d.samples box gain.ranges xs (values_over net start xs) refl d.shown k (all_between low high xs a) (run_given net start xs))
-    ]
+    let input = symbol_of_range (range low high) in
+    let given = run_given net input start xs (inputs_lie low high xs (all_between low high xs a)) in
+    rows_lie net input gain.ranges start xs
+    (box_held net quantity.Words (pos 1) low high box gain.ranges (values_over net start xs) (omega (arith, ints)) (gain_holds (words_network net low high) (map symbol_of_range box) limit gain e) k given)
 
 box_safe : (net : Net) (low high : ℤ) (limit : ℕ) (box ranges : List Range) → box_ranges net low high limit box ≡ Some ranges → HoldInRuns net low high ranges
 box_safe net low high limit box ranges e =
-    let search : List Range → Outlook = λ symbols. gain_from net.nodes net.next limit 0 (box_search net low high symbols) in
+    let search : List Range → Outlook = λ symbols. networks.gain_of (words_network net low high) symbols limit in
     let one = some_of (all_of scaled_range box) (λ symbols. kept_ranges net (range low high) box (search symbols)) ranges e in
     let k = kept_cases net (range low high) box (search one.0) ranges one.2 in
     let symbols = all_made scaled_range symbol_of_range symbol_is box one.0 one.1 in

@@ -8,10 +8,11 @@ use Rattle.dsv_netlist.specs.Nodes.{Net}
 use Rattle.dsv_linear.specs.declared.range.Range.{Range}
 use Rattle.dsv_linear.proofs.Numbers.{some_of}
 use Rattle.dsv_linear.specs.Forms.{◌>>=◌, range, scaled_range}
-use Rattle.dsv_gain.specs.declared.pass.Pass.{Pass}
-use Rattle.dsv_gain.specs.declared.outlook.Outlook.{Outlook}
-use Rattle.dsv_gain.specs.Gains.{gain_from}
-use Rattle.dsv_gain.specs.Narrowing.{all_of, held_after, held_in, box_pass, box_search, kept_ranges, box_ranges, are_narrower, narrower_ranges, or_else, narrowed}
+use Rattle.dsv_network.specs.declared.network.Network.{Network}
+use Rattle.dsv_network.specs.declared.outlook.Outlook.{Outlook}
+use Rattle.dsv_network.specs.Gains as networks
+use Rattle.dsv_gain.specs.Gains.{words_network}
+use Rattle.dsv_gain.specs.Narrowing.{all_of, held_after, held_in, kept_ranges, box_ranges, are_narrower, narrower_ranges, or_else, narrowed}
 
 -- ---- what is made of each
 joined : {X Y : Type 0} (make : X → Option Y) (x : X) (y : Y) (xs : List X) (ys : List Y) → make x ≡ Some y → all_of make xs ≡ Some ys → all_of make (xs ++ x ∷ []) ≡ Some (ys ++ y ∷ [])
@@ -84,10 +85,10 @@ narrowed_more net low high limit n i ranges narrower all l h e =
     ∙ h
 
 -- ---- a pass from a box
-pub found_of : (net : Net) (low high : ℤ) (limit : ℕ) (list symbols : List Range) (nodes : List Node) (next : List ℕ) (pass : Pass) (found : Outlook) (input : Range) (result : Option (List Range)) → nodes ≡ net.nodes → next ≡ net.next → Some symbols ≡ all_of scaled_range list
-    → pass ≡ box_pass net low high symbols → found ≡ gain_from nodes next limit 0 (record { pass = pass; seen = None; best = None }) → input ≡ range low high → result ≡ kept_ranges net input list found → result ≡ box_ranges net low high limit list
-found_of net low high limit list symbols nodes next pass found input result n m s p f i r =
-    let search : List Range → Outlook = λ these. gain_from net.nodes net.next limit 0 (box_search net low high these) in
+pub found_of : (net : Net) (low high : ℤ) (limit : ℕ) (list symbols : List Range) (network : Network) (found : Outlook) (input : Range) (result : Option (List Range)) → Some symbols ≡ all_of scaled_range list → network ≡ words_network net low high
+    → found ≡ networks.gain_of network symbols limit → input ≡ range low high → result ≡ kept_ranges net input list found → result ≡ box_ranges net low high limit list
+found_of net low high limit list symbols network found input result s n f i r =
+    let search : List Range → Outlook = λ these. networks.gain_of (words_network net low high) these limit in
     r ∙ ap (λ j. kept_ranges net j list found) i
-    ∙ ap (kept_ranges net (range low high) list) (f ∙ rw (n, m, p) refl)
+    ∙ ap (kept_ranges net (range low high) list) (f ∙ ap (λ m. networks.gain_of m symbols limit) n)
     ∙ ap (λ (o : Option (List Range)). o >>= λ these. kept_ranges net (range low high) list (search these)) s

@@ -3,18 +3,16 @@
 -- The ranges of what a sample fits and those of its registers say what each register is loaded
 -- with. Where the box holds that again, and 0, it holds the registers of every run from zeros.
 use Rattle.std.specs.Prelude.{ℕ, zero, suc, Bool, true, false, not, ◌&&◌, if◌then◌else◌, int_lt}
-use Rattle.std.specs.Prelude.{List, [], ◌∷◌, length, drop, Option, Some, None, nat_lt, pos}
+use Rattle.std.specs.Prelude.{List, [], ◌∷◌, length, drop, Option, Some, None, nat_lt}
 use Rattle.dsv_word.specs.declared.format.Format.{Format}
 use Rattle.dsv_netlist.specs.declared.node.Node.{Node}
 use Rattle.dsv_netlist.specs.declared.node.Node.TheVariants.{Input, Reg, MulConst}
 use Rattle.dsv_netlist.specs.declared.node.Node.TheVariants.{Round, Add, Sub, Fit, Scale}
 use Rattle.dsv_netlist.specs.Conditions.{is_fit}
 use Rattle.dsv_linear.specs.declared.range.Range.{Range}
-use Rattle.dsv_linear.specs.Forms.{range, range_at}
+use Rattle.dsv_linear.specs.Forms.{range_at}
 use Rattle.dsv_linear.specs.Known.{are_words}
-
-abbrev pub none_range : Range
-none_range = range (pos 0) (pos 0)
+use Rattle.dsv_network.specs.Gains.{none_range}
 
 -- ---- what nodes give
 -- the range of this number, where there is one

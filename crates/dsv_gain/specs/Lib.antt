@@ -1,5 +1,5 @@
+pub mod Networks
 pub mod Gains
-pub mod Samples
 pub mod Boxes
 pub mod Narrowing
 pub mod Safe

@@ -11,15 +11,12 @@ use Rattle.dsv_netlist.specs.declared.node.Node.{Node}
 use Rattle.dsv_netlist.specs.Nodes.{Net}
 use Rattle.dsv_linear.specs.declared.range.Range.{Range}
 use Rattle.dsv_linear.specs.Forms.{◌>>=◌, range, scaled_range}
-use Rattle.dsv_roundoff.specs.Differences.{multiples_of}
-use Rattle.dsv_gain.specs.declared.pass.Pass.{Pass}
-use Rattle.dsv_gain.specs.declared.pass.Quantity.TheVariants as quantity
-use Rattle.dsv_gain.specs.declared.outlook.Outlook.{Outlook}
-use Rattle.dsv_gain.specs.declared.outlook.Outlook.TheVariants as outlook
-use Rattle.dsv_gain.specs.declared.search.Search.{Search}
-use Rattle.dsv_gain.specs.Gains.{pairwise, hulls, symbol_of_range, symbol_pass}
-use Rattle.dsv_gain.specs.Gains.{gain_from, first_gain}
-use Rattle.dsv_gain.specs.Boxes.{none_range, range_in, is_kept}
+use Rattle.dsv_network.specs.declared.outlook.Outlook.{Outlook}
+use Rattle.dsv_network.specs.declared.outlook.Outlook.TheVariants as outlook
+use Rattle.dsv_network.specs.Gains as network
+use Rattle.dsv_network.specs.Gains.{pairwise, hulls, none_range}
+use Rattle.dsv_gain.specs.Gains.{words_network, first_gain}
+use Rattle.dsv_gain.specs.Boxes.{range_in, is_kept}
 
 -- ---- what registers hold
 -- what is made of each, where something is of all of them
@@ -46,19 +43,6 @@ starts_of net input ranges = held_in (length net.next) input net.nodes net.next 
     (replicate (length net.next) none_range)
 
 -- ---- a pass from there
--- from registers whose symbols have these ranges
-abbrev pub box_pass : Net → ℤ → ℤ → List Range → Pass
-box_pass net low high symbols = symbol_pass net (quantity.Words (multiples_of net.format net.nodes))
-    symbols (symbol_of_range (range low high))
-
--- before the first sample
-abbrev pub box_search : Net → ℤ → ℤ → List Range → Search
-box_search net low high symbols = record {
-  pass = box_pass net low high symbols;
-  seen = None;
-  best = None;
-}
-
 -- the ranges of what is found from the box, where these keep it
 abbrev pub kept_ranges : Net → Range → List Range → Outlook → Option (List Range)
 kept_ranges net input box (outlook.Safe gain) =
@@ -70,7 +54,7 @@ kept_ranges net input box outlook.Deep = None
 abbrev pub box_ranges : Net → ℤ → ℤ → ℕ → List Range → Option (List Range)
 box_ranges net low high limit box = all_of scaled_range box >>= λ symbols.
     kept_ranges net (range low high) box
-    (gain_from net.nodes net.next limit 0 (box_search net low high symbols))
+    (network.gain_of (words_network net low high) symbols limit)
 
 -- ---- narrower ranges
 -- the numbers that both hold

@@ -1,5 +1,5 @@
 -- What the ranges of a gain say.
-use Rattle.std.specs.Prelude.{◌≡◌, ℕ, suc, ◌<◌, ◌≤◌, List, [], ◌∷◌, length, take, ℤ}
+use Rattle.std.specs.Prelude.{◌≡◌, ℕ, suc, ◌<◌, List, [], ◌∷◌, length, take, ℤ}
 use Rattle.std.specs.List.{All}
 use Rattle.dsv_word.specs.declared.format.Format.{Format}
 use Rattle.dsv_word.specs.Words.{IsWord}
@@ -10,9 +10,9 @@ use Rattle.dsv_netlist.specs.Systems.{system_of, runs_of}
 use Rattle.dsv_netlist.specs.Conditions.{IsNetlist}
 use Rattle.dsv_linear.specs.Facts.{Between, LiesWithin}
 use Rattle.dsv_linear.specs.declared.range.Range.{Range}
-use Rattle.dsv_gain.specs.declared.outlook.Gain.{Gain}
-use Rattle.dsv_gain.specs.declared.outlook.Outlook.{Outlook}
-use Rattle.dsv_gain.specs.declared.outlook.Outlook.TheVariants as outlook
+use Rattle.dsv_network.specs.declared.outlook.Gain.{Gain}
+use Rattle.dsv_network.specs.declared.outlook.Outlook.{Outlook}
+use Rattle.dsv_network.specs.declared.outlook.Outlook.TheVariants as outlook
 use Rattle.dsv_gain.specs.Gains.{past_range, pasts}
 use Rattle.dsv_gain.specs.Narrowing.{gain_of}
 
@@ -46,10 +46,6 @@ abbrev pub IfSafe : Outlook → (Gain → Type 0) → Type 0
 IfSafe (outlook.Safe gain) P = P gain
 IfSafe (outlook.Leaves sample value) P = Unit {0}
 IfSafe outlook.Deep P = Unit {0}
-
--- the samples that showed it are below the limit
-abbrev pub IsWithin : ℕ → Gain → Type 0
-IsWithin limit gain = (gain.depth ≤ gain.settled) × (gain.settled < limit)
 
 -- over inputs that are words, whatever the limit
 abbrev pub GainsAreSafe : Type 0

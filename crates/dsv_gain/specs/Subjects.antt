@@ -2,9 +2,9 @@
 use Rattle.std.specs.Prelude.{◌≡◌, ℕ, List}
 use Rattle.dsv_gain.specs.Narrowing.{gain_of}
 use Rattle.dsv_gain.specs.Safe.{HoldsBy, NeverBy}
-use Rattle.dsv_gain.specs.declared.outlook.Gain.{Gain}
-use Rattle.dsv_gain.specs.declared.outlook.Outlook.{Outlook}
-use Rattle.dsv_gain.specs.declared.outlook.Outlook.TheVariants as outlook
+use Rattle.dsv_network.specs.declared.outlook.Gain.{Gain}
+use Rattle.dsv_network.specs.declared.outlook.Outlook.{Outlook}
+use Rattle.dsv_network.specs.declared.outlook.Outlook.TheVariants as outlook
 use Rattle.dsv_linear.specs.declared.range.Range.{Range}
 use Rattle.dsv_meaning.specs.declared.replays.Trace.{Trace}
 use Rattle.dsv_realise.specs.Runs.{IsTrace}

@@ -2,24 +2,21 @@
 ghost use Rattle.std.specs.Prelude.{◌≡◌, IfOk};
 ghost use Rattle.dsv_linear.specs.Forms.{range, scaled_range};
 ghost use Rattle.dsv_gain.specs.Narrowing.{all_of, held_after, held_in, starts_of};
-ghost use Rattle.dsv_gain.specs.Narrowing.{box_pass, kept_ranges, box_ranges};
+ghost use Rattle.dsv_gain.specs.Narrowing.{kept_ranges, box_ranges};
 ghost use Rattle.dsv_gain.specs.Narrowing.{meet, meets, times_width, is_known_less};
 ghost use Rattle.dsv_gain.specs.Narrowing.{is_narrower, are_narrower, more_known};
 ghost use Rattle.dsv_gain.specs.Narrowing.{narrower_ranges, narrowed, most_passes};
 ghost use Rattle.dsv_gain.specs.Narrowing.{with_narrowed};
 
 use crate::boxes::Known;
-use crate::outlook::{Gain, Outlook};
-use crate::pass::{Pass, Quantity};
-use crate::ranges::{Ranges, hulls, push_copies, range_at, shorter_length, symbol_of};
-use crate::search::{Search, gain_from};
-use crate::starts::symbol_pass;
+use crate::ranges::push_copies;
+use crate::starts::words_network;
 use dsv_algebra::NarrowInteger;
 use dsv_base::NoMemory;
-use dsv_linear::{RANGE_SCALE, Range};
+use dsv_linear::Range;
 use dsv_netlist::Netlist;
+use dsv_network::{Gain, Outlook, Ranges, gain_of, hulls, range_at, scaled_range, shorter_length};
 use dsv_realise::RangedNetlist;
-use dsv_roundoff::multiples_of;
 use std::alloc::Global;
 
 /// The most passes after the first one.
@@ -68,18 +65,6 @@ fn starts_of(
     Ok(Some(list))
 }
 
-/// A range times the range scale, where its ends stay narrow.
-#[tactic(auto, using(dsv_linear::proofs::Scales::scales))]
-fn scaled_range(range: &Range) -> Option<Range>
-    ensures { result ≡ scaled_range range.now }
-{
-    let scale = NarrowInteger::from(RANGE_SCALE as i64);
-    Some(Range {
-        low: scale.checked_mul(range.low)?,
-        high: scale.checked_mul(range.high)?,
-    })
-}
-
 /// The ranges of the symbols of registers that lie in these.
 fn symbols_of(alloc: Global, list: &[Range]) -> Result<Option<Ranges>, NoMemory>
     ensures { IfOk result (λ symbols. symbols ≡ all_of scaled_range list.now) }
@@ -92,17 +77,6 @@ fn symbols_of(alloc: Global, list: &[Range]) -> Result<Option<Ranges>, NoMemory>
         symbols.push(symbol)?;
     }
     Ok(Some(symbols))
-}
-
-/// A pass from registers whose symbols have these ranges.
-fn box_pass(alloc: Global, subject: &RangedNetlist, symbols: Ranges) -> Result<Pass, NoMemory>
-    ensures { IfOk result (λ pass. pass
-        ≡ box_pass subject.now.net.now subject.now.low subject.now.high symbols) }
-{
-    let net = subject.net;
-    let multiples = multiples_of(alloc, &net.format(), net.nodes())?;
-    let input = symbol_of(subject.low, subject.high);
-    symbol_pass(alloc, net, Quantity::Words(multiples), symbols, &input)
 }
 
 /// The ranges of what is found from a box, where these keep it.
@@ -141,17 +115,12 @@ fn box_ranges(
     ensures { IfOk result (λ ranges. ranges ≡ box_ranges subject.now.net.now subject.now.low
         subject.now.high limit list.now) }
 {
-    let net = subject.net;
     let Some(symbols) = symbols_of(alloc, list)? else {
         return Ok(None);
     };
-    let search = Search {
-        pass: box_pass(alloc, subject, symbols)?,
-        seen: None,
-        best: None,
-    };
-    let found = gain_from(alloc, net.nodes(), net.next_nodes(), limit, search)?;
-    Ok(kept_ranges(net, &input_range(subject), list, found))
+    let network = words_network(alloc, subject)?;
+    let found = gain_of(alloc, &network, symbols, limit)?;
+    Ok(kept_ranges(subject.net, &input_range(subject), list, found))
 }
 
 /// The numbers that both hold.

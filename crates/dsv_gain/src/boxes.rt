@@ -4,13 +4,14 @@ ghost use Rattle.std.specs.Prelude.{length, drop, IfOk};
 ghost use Rattle.dsv_netlist.specs.Conditions.{is_fit};
 ghost use Rattle.dsv_linear.specs.Known.{are_words};
 ghost use Rattle.dsv_gain.specs.Boxes.{range_of, node_range, range_in, fits_before};
-ghost use Rattle.dsv_gain.specs.Boxes.{none_range, is_inside, is_known_inside, is_kept};
+ghost use Rattle.dsv_network.specs.Gains.{none_range};
+ghost use Rattle.dsv_gain.specs.Boxes.{is_inside, is_known_inside, is_kept};
 ghost use Rattle.dsv_gain.specs.Narrowing.{all_of};
 
-use crate::ranges::Ranges;
 use dsv_base::NoMemory;
 use dsv_linear::{Range, are_words};
 use dsv_netlist::Node;
+use dsv_network::Ranges;
 use dsv_word::Format;
 use std::alloc::Global;
 

@@ -1,23 +1,21 @@
 // What a box of differences and a depth show of the output's difference.
-ghost use Rattle.std.specs.Prelude.{◌≡◌, map, IfOk, None};
+ghost use Rattle.std.specs.Prelude.{◌≡◌, map, IfOk};
+ghost use Rattle.dsv_network.specs.Gains.{none_range};
 ghost use Rattle.dsv_gain.specs.Gains.{symbol_of_range};
-ghost use Rattle.dsv_gain.specs.Boxes.{none_range};
-ghost use Rattle.dsv_gain.specs.Errors.{range_from, error_pass, differences_from};
-ghost use Rattle.dsv_gain.specs.Errors.{kept_range, error_of};
+ghost use Rattle.dsv_gain.specs.Errors.{range_from, differences_network, kept_range, error_of};
 
 use crate::boxes::Known;
-use crate::ends::{Ends, SampleEnds};
-use crate::pass::{Pass, Quantity, add_sample};
-use crate::ranges::{Ranges, hulls, hulls_after, symbol_of};
-use crate::starts::symbol_pass;
+use crate::networks::{Quantity, network_of};
+use crate::ranges::symbol_of;
 use dsv_base::NoMemory;
 use dsv_linear::Range;
 use dsv_netlist::{Netlist, Node};
-use dsv_roundoff::{RoundoffOffer, WordRange, multiples_of};
+use dsv_network::{Network, Ranges, ranges_of};
+use dsv_roundoff::{RoundoffOffer, WordRange};
 use std::alloc::Global;
 
 /// These ranges, as ranges of any numbers.
-pub(crate) fn ranges_of(alloc: Global, list: &[WordRange]) -> Result<Ranges, NoMemory>
+pub(crate) fn ranges_from(alloc: Global, list: &[WordRange]) -> Result<Ranges, NoMemory>
     ensures { IfOk result (λ ranges. ranges ≡ map range_from list.now) }
 {
     let mut ranges = Ranges::new(alloc);
@@ -29,7 +27,7 @@ pub(crate) fn ranges_of(alloc: Global, list: &[WordRange]) -> Result<Ranges, NoM
 }
 
 /// The ranges of the symbols of registers whose differences lie in these.
-fn symbols_of(alloc: Global, list: &[WordRange]) -> Result<Ranges, NoMemory>
+pub(crate) fn symbols_of(alloc: Global, list: &[WordRange]) -> Result<Ranges, NoMemory>
     ensures { IfOk result (λ ranges. ranges
         ≡ map symbol_of_range (map range_from list.now)) }
 {
@@ -40,57 +38,11 @@ fn symbols_of(alloc: Global, list: &[WordRange]) -> Result<Ranges, NoMemory>
     Ok(symbols)
 }
 
-/// A pass over differences, from registers whose differences lie in these ranges.
-pub(crate) fn error_pass(
-    alloc: Global,
-    net: &Netlist,
-    nodes: &[Node],
-    list: &[WordRange],
-) -> Result<Pass, NoMemory>
-    requires { nodes.now ≡ net.now.nodes }
-    ensures { IfOk result (λ pass. pass ≡ error_pass net.now (map range_from list.now)) }
+/// The network of a netlist's differences, of which an input has none.
+pub(crate) fn differences_network(alloc: Global, net: &Netlist) -> Result<Network, NoMemory>
+    ensures { IfOk result (λ it. it ≡ differences_network net.now) }
 {
-    let multiples = multiples_of(alloc, &net.format(), nodes)?;
-    let symbols = symbols_of(alloc, list)?;
-    symbol_pass(
-        alloc,
-        net,
-        Quantity::Differences(multiples),
-        symbols,
-        &symbol_of(0, 0),
-    )
-}
-
-/// The ranges of what is fitted: of all runs from registers without differences up to this sample,
-/// and of the sample after any differences in the box.
-fn differences_from(
-    alloc: Global,
-    nodes: &[Node],
-    next: &[u32],
-    depth: u32,
-    pass: Pass,
-) -> Result<Option<Ranges>, NoMemory>
-    ensures { IfOk result
-        (λ ranges. ranges ≡ differences_from nodes.now next.now depth pass None) }
-{
-    let mut pass = pass;
-    let mut seen = None;
-    for _ in 0..depth {
-        let SampleEnds { run, .. } = add_sample(alloc, nodes, next, &mut pass)?;
-        let Ends::Words(now) = run else {
-            return Ok(None);
-        };
-        seen = Some(hulls_after(alloc, seen, now)?);
-    }
-    let SampleEnds { run, step } = add_sample(alloc, nodes, next, &mut pass)?;
-    let Ends::Words(now) = run else {
-        return Ok(None);
-    };
-    let Ends::Words(last) = step else {
-        return Ok(None);
-    };
-    let all = hulls_after(alloc, seen, now)?;
-    Ok(Some(hulls(alloc, &all, &last)?))
+    network_of(alloc, net, Quantity::Differences, &symbol_of(0, 0))
 }
 
 /// What is known of the differences of a sample: an input has none.
@@ -137,11 +89,12 @@ pub fn error_of(
     ensures { IfOk result (λ range. range ≡ error_of net.now offer.now) }
 {
     let (nodes, next) = (net.nodes(), net.next_nodes());
-    let pass = error_pass(alloc, net, nodes, offer.ranges.as_slice())?;
-    let Some(ranges) = differences_from(alloc, nodes, next, offer.depth, pass)? else {
+    let network = differences_network(alloc, net)?;
+    let starts = symbols_of(alloc, offer.ranges.as_slice())?;
+    let Some(ranges) = ranges_of(alloc, &network, starts, offer.depth)? else {
         return Ok(None);
     };
-    let list = ranges_of(alloc, offer.ranges.as_slice())?;
+    let list = ranges_from(alloc, offer.ranges.as_slice())?;
     let (list, ranges) = (list.as_slice(), ranges.as_slice());
     Ok(kept_range(net, list, ranges, nodes, next))
 }

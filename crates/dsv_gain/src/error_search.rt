@@ -3,15 +3,15 @@
 ghost use Rattle.std.specs.Prelude.{◌≡◌, ◌<◌, IfOk, IfSome, Some};
 ghost use Rattle.dsv_gain.specs.Errors.{error_of};
 
-use crate::ends::{Ends, SampleEnds};
-use crate::error_ranges::{differences_in, error_of, error_pass, ranges_of};
-use crate::pass::{Pass, add_sample};
-use crate::ranges::{Ranges, hulls, hulls_after};
+use crate::error_ranges::{differences_in, differences_network, error_of, ranges_from, symbols_of};
 use crate::roundoff::ErrorBound;
-use crate::start_parts::has_settled;
 use dsv_base::{Items, NoMemory};
 use dsv_linear::Range;
 use dsv_netlist::{Netlist, Node};
+use dsv_network::{
+    Ends, Network, Pass, Ranges, SampleEnds, add_sample, has_settled, hulls, hulls_after,
+    start_pass,
+};
 use dsv_roundoff::{RoundoffOffer, WordRange};
 use dsv_word::Format;
 use std::alloc::Global;
@@ -45,11 +45,11 @@ fn are_same(a: &[Range], b: &[Range]) -> bool {
 /// if they are known.
 fn seen_after(
     alloc: Global,
-    nodes: &[Node],
-    next: &[u32],
+    network: &Network,
     pass: &mut Pass,
     seen: Option<Ranges>,
 ) -> Result<Option<Ranges>, NoMemory> {
+    let (nodes, next) = (network.nodes.as_slice(), network.next.as_slice());
     let SampleEnds { run, .. } = add_sample(alloc, nodes, next, pass)?;
     match run {
         Ends::Words(now) => Ok(Some(hulls_after(alloc, seen, now)?)),
@@ -62,19 +62,17 @@ fn seen_after(
 fn grown_ranges(
     alloc: Global,
     net: &Netlist,
-    nodes: &[Node],
-    next: &[u32],
+    network: &Network,
     limit: u32,
-) -> Result<Option<Ranges>, NoMemory>
-    requires { nodes.now ≡ net.now.nodes }
-{
+) -> Result<Option<Ranges>, NoMemory> {
     let list = empty_box(alloc, net.registers())?;
-    let mut pass = error_pass(alloc, net, nodes, list.as_slice())?;
+    let starts = symbols_of(alloc, list.as_slice())?;
+    let mut pass = start_pass(alloc, network, starts)?;
     let mut seen: Option<Ranges> = None;
     let mut before = Ranges::new(alloc);
     let mut mark = FIRST_MARK;
     for sample in 0..limit {
-        let Some(all) = seen_after(alloc, nodes, next, &mut pass, seen)? else {
+        let Some(all) = seen_after(alloc, network, &mut pass, seen)? else {
             return Ok(None);
         };
         if sample == mark {
@@ -142,10 +140,12 @@ fn widened_box(
     Ok(list)
 }
 
-/// What a box is tested with: the format and the sample of a netlist, and the box.
+/// What a box is tested with: the format and the sample of a netlist, the network of its
+/// differences, and the box.
 #[derive(Clone, Copy)]
 struct BoxTest<'a> {
     format: Format,
+    network: &'a Network,
     nodes: &'a [Node],
     next: &'a [u32],
     ranges: &'a [Range],
@@ -185,7 +185,9 @@ impl BoxTest<'_> {
             seen,
             depth,
         } = search;
-        let SampleEnds { run, step } = add_sample(alloc, self.nodes, self.next, &mut pass)?;
+        let signals = self.network.nodes.as_slice();
+        let next = self.network.next.as_slice();
+        let SampleEnds { run, step } = add_sample(alloc, signals, next, &mut pass)?;
         let now = match run {
             Ends::Words(now) => now,
             Ends::Leaves(_) => return Ok(DepthTurn::Over(depth)),
@@ -203,7 +205,7 @@ impl BoxTest<'_> {
         };
         let is_kept = self.is_kept(alloc, &seen, &last)?;
         let depth = if is_kept { Some(sample) } else { depth };
-        if has_settled(self.nodes, &pass) {
+        if has_settled(signals, &pass) {
             return Ok(DepthTurn::Over(depth));
         }
         Ok(DepthTurn::Next(DepthSearch {
@@ -235,16 +237,17 @@ impl BoxTest<'_> {
 fn kept_depth(
     alloc: Global,
     net: &Netlist,
+    network: &Network,
     list: &[WordRange],
     limit: u32,
 ) -> Result<Option<u32>, NoMemory> {
-    let (nodes, next) = (net.nodes(), net.next_nodes());
-    let pass = error_pass(alloc, net, nodes, list)?;
-    let ranges = ranges_of(alloc, list)?;
+    let pass = start_pass(alloc, network, symbols_of(alloc, list)?)?;
+    let ranges = ranges_from(alloc, list)?;
     let test = BoxTest {
         format: net.format(),
-        nodes,
-        next,
+        network,
+        nodes: net.nodes(),
+        next: net.next_nodes(),
         ranges: ranges.as_slice(),
     };
     test.depth(alloc, pass, limit)
@@ -255,14 +258,15 @@ fn offer_of(alloc: Global, net: &Netlist, limit: u32) -> Result<Option<RoundoffO
     ensures { IfOk result (λ offer. IfSome offer (λ it. it.depth < limit)) }
 {
     let (nodes, next) = (net.nodes(), net.next_nodes());
-    let Some(grown) = grown_ranges(alloc, net, nodes, next, limit)? else {
+    let network = differences_network(alloc, net)?;
+    let Some(grown) = grown_ranges(alloc, net, &network, limit)? else {
         return Ok(None);
     };
     let Some(list) = register_ranges(alloc, grown.as_slice(), nodes, next)? else {
         return Ok(None);
     };
     let ranges = widened_box(alloc, &net.format(), list.as_slice())?;
-    match kept_depth(alloc, net, ranges.as_slice(), limit)? {
+    match kept_depth(alloc, net, &network, ranges.as_slice(), limit)? {
         Some(depth) if depth < limit => Ok(Some(RoundoffOffer { depth, ranges })),
         _ => Ok(None),
     }

@@ -6,24 +6,20 @@
 mod box_ranges;
 mod boxes;
 mod controllers;
-mod ends;
 mod error_ranges;
 mod error_search;
 mod law;
 mod lists;
-mod outlook;
-mod pass;
+mod networks;
 mod questions;
 mod ranges;
 mod reaches;
 mod roundoff;
 mod search;
-mod start_parts;
 mod starts;
-mod walk;
-mod weights;
 
 pub use controllers::{controller_error, rounding_error};
+pub use dsv_network::{Gain, Outlook, Ranges};
 pub use error_ranges::error_of;
 pub use error_search::error_bound;
 pub use law::{
@@ -31,8 +27,6 @@ pub use law::{
     longest_list, offers_fit, outputs_stay_near, registers_stay_near,
 };
 pub use lists::{MOST_DRIVEN, driven_trace};
-pub use outlook::{Gain, Outlook};
 pub use questions::{driven, gain};
-pub use ranges::Ranges;
 pub use roundoff::{ErrorBound, ShownError};
 pub use search::gain_of;

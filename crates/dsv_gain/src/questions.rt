@@ -5,10 +5,10 @@ ghost use Rattle.dsv_gain.specs.Subjects.{outlook_of, HoldsAlways, NeverOverflow
 ghost use Rattle.dsv_realise.specs.Runs.{IsTrace};
 
 use crate::lists::driven_trace;
-use crate::outlook::Outlook;
 use crate::search::gain_of;
 use dsv_base::NoMemory;
 use dsv_meaning::Trace;
+use dsv_network::Outlook;
 use dsv_realise::{Asking, Subject};
 use std::alloc::Global;
 

@@ -1,15 +1,14 @@
 // Registers that are any words.
-ghost use Rattle.std.specs.Prelude.{◌≡◌, ◌≤◌, ◌++◌, length, IfOk};
+ghost use Rattle.std.specs.Prelude.{◌≡◌, ◌≤◌, length, IfOk};
 ghost use Rattle.dsv_gain.specs.Gains.{is_past, gives_past, hold_inputs, pasts};
-ghost use Rattle.dsv_gain.specs.Gains.{symbol_registers, register_symbols, first_ranges};
-ghost use Rattle.dsv_gain.specs.Gains.{sample_symbols, symbol_pass, word_pass};
+ghost use Rattle.dsv_gain.specs.Gains.{register_symbols, words_network};
 
-use crate::pass::{Pass, Quantity};
-use crate::ranges::{Ranges, past_symbol, push_copies, symbol_of};
-use dsv_base::{Items, NoMemory};
-use dsv_linear::{Form, Range, unit};
+use crate::networks::{Quantity, network_of};
+use crate::ranges::{past_symbol, push_copies, symbol_of};
+use dsv_base::NoMemory;
 use dsv_netlist::{Netlist, Node};
-use dsv_roundoff::multiples_of;
+use dsv_network::{Network, Ranges};
+use dsv_realise::RangedNetlist;
 use std::alloc::Global;
 
 /// Whether a node gives the input, or one of the first so many registers.
@@ -56,18 +55,6 @@ fn pasts(net: &Netlist) -> u32
     }
 }
 
-/// What is known of so many registers that are symbols of their own.
-#[tactic(auto, using(crate::proofs::Loops::symbols_more))]
-fn symbol_registers(alloc: Global, count: u32) -> Result<Items<Form>, NoMemory>
-    ensures { IfOk result (λ registers. registers ≡ symbol_registers count) }
-{
-    let mut registers = Items::new(alloc);
-    for i in 0..count {
-        registers.push(unit(alloc, i as usize)?)?;
-    }
-    Ok(registers)
-}
-
 /// The ranges of the registers' symbols, where the first so many hold past inputs.
 fn register_symbols(
     alloc: Global,
@@ -91,59 +78,20 @@ fn register_symbols(
     Ok(ranges)
 }
 
-/// The range of the symbol that a node brings, as far as it is known before the first sample, where
-/// this is that of an input's.
-fn push_first_range(ranges: &mut Ranges, input: &Range, node: &Node) -> Result<(), NoMemory>
-    ensures { IfOk result (λ u. ranges.new ≡ ranges.old ++ first_ranges input.now node.now) }
+/// The ranges of the symbols of a subject's registers, which are words, or past inputs.
+pub(crate) fn word_starts(alloc: Global, subject: &RangedNetlist) -> Result<Ranges, NoMemory>
+    ensures { IfOk result (λ ranges. ranges
+        ≡ register_symbols subject.now.net.now subject.now.low subject.now.high) }
 {
-    match node {
-        Node::Input => ranges.push(*input),
-        Node::Round(_) => ranges.push(symbol_of(0, 0)),
-        _ => Ok(()),
-    }
+    let count = pasts(subject.net);
+    register_symbols(alloc, subject.net, count, subject.low, subject.high)
 }
 
-/// The ranges of the symbols that nodes bring, as far as they are known before the first sample.
-fn push_sample_symbols(ranges: &mut Ranges, input: &Range, nodes: &[Node]) -> Result<(), NoMemory>
-    ensures { IfOk result (λ u. ranges.new ≡ ranges.old ++ sample_symbols input.now nodes.now) }
+/// The network of a subject's runs in words, over inputs in its range.
+pub(crate) fn words_network(alloc: Global, subject: &RangedNetlist) -> Result<Network, NoMemory>
+    ensures { IfOk result
+        (λ it. it ≡ words_network subject.now.net.now subject.now.low subject.now.high) }
 {
-    for node in nodes {
-        push_first_range(ranges, input, node)?;
-    }
-    Ok(())
-}
-
-/// A pass from registers whose symbols, and those of inputs, have these ranges.
-pub(crate) fn symbol_pass(
-    alloc: Global,
-    net: &Netlist,
-    quantity: Quantity,
-    symbols: Ranges,
-    input: &Range,
-) -> Result<Pass, NoMemory>
-    ensures { IfOk result (λ pass. pass ≡ symbol_pass net.now quantity symbols input.now) }
-{
-    let mut ranges = symbols;
-    push_sample_symbols(&mut ranges, input, net.nodes())?;
-    Ok(Pass {
-        format: net.format(),
-        quantity,
-        count: net.registers(),
-        is_first: true,
-        registers: symbol_registers(alloc, net.registers())?,
-        weights: Items::new(alloc),
-        ranges,
-        forms: Items::new(alloc),
-    })
-}
-
-/// A pass from registers that are inputs and words.
-pub(crate) fn word_pass(alloc: Global, net: &Netlist, low: i64, high: i64) -> Result<Pass, NoMemory>
-    ensures { IfOk result (λ pass. pass ≡ word_pass net.now low high) }
-{
-    let count = pasts(net);
-    let symbols = register_symbols(alloc, net, count, low, high)?;
-    let multiples = multiples_of(alloc, &net.format(), net.nodes())?;
-    let input = symbol_of(low, high);
-    symbol_pass(alloc, net, Quantity::Words(multiples), symbols, &input)
+    let input = symbol_of(subject.low, subject.high);
+    network_of(alloc, subject.net, Quantity::Words, &input)
 }

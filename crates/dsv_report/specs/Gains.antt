@@ -3,7 +3,7 @@
 use Rattle.std.specs.Prelude.{ℕ, pos, List, [], ◌∷◌, ◌++◌, codes, Option, Some, None}
 use Rattle.std.specs.Fmt.{signed_decimal}
 use Rattle.dsv_linear.specs.declared.range.Range.{Range}
-use Rattle.dsv_gain.specs.declared.outlook.Gain.{Gain}
+use Rattle.dsv_network.specs.declared.outlook.Gain.{Gain}
 use Rattle.dsv_gain.specs.declared.roundoff.ShownError.{ShownError}
 use Rattle.dsv_report.specs.Fragments.{concatenation}
 use Rattle.dsv_report.specs.Lines.{numbered, number_line, numbered_lines}

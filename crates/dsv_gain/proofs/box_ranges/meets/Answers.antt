@@ -2,7 +2,7 @@ use Rattle.std.proofs.Common.{◌≡◌, [], ◌∷◌, ◌++◌, arith, inl, in
 use Rattle.std.specs.Prelude.{pos}
 use Rattle.dsv_linear.specs.Forms.{range, range_at}
 use Rattle.dsv_gain.specs.Narrowing.{meet}
-use Rattle.dsv_gain.proofs.Loops.{pairs_more, pairs_all}
+use Rattle.dsv_network.proofs.Loops.{pairs_more, pairs_all}
 use Rattle.dsv_gain.proofs.box_ranges.meets.Goals as goal
 
 pub loop-i-preserved : goal.loop-i-preserved

@@ -1,5 +1,5 @@
 use Rattle.std.proofs.Common.{◌≡◌, ◌-◌, length, replicate}
-use Rattle.dsv_gain.specs.Boxes.{none_range}
+use Rattle.dsv_network.specs.Gains.{none_range}
 use Rattle.dsv_gain.specs.Narrowing.{held_in}
 use Rattle.dsv_gain.proofs.box_ranges.starts_of.Given as goal
 

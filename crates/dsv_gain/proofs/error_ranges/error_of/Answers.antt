@@ -4,9 +4,9 @@ use Rattle.dsv_gain.proofs.error_ranges.error_of.Goals as goal
 
 pub returns-in_default : goal.returns-in_default
 returns-in_default c =
-    nothing_of c.args.net.now c.args.offer.now c.nodes-nodes.result.now c.next_nodes-next.result.now c.in_ok-pass.pass (grind arith) (grind arith) (grind arith) (grind (arith, c.in_ok-ranges.ensures, c.in_default.not-Some))
+    nothing_of c.args.net.now c.args.offer.now c.in_ok-network.network c.in_ok-starts.starts (grind arith) (grind arith) (grind (arith, c.in_ok-ranges.ensures, c.in_default.not-Some))
 
 pub returns : goal.returns
 returns c =
-    shown_of c.args.net.now c.args.offer.now c.nodes-nodes.result.now c.next_nodes-next.result.now c.in_ok-pass.pass c.in-Some.ranges c.in_ok-list.list c.kept_range.result (grind arith) (grind arith) (grind arith)
+    shown_of c.args.net.now c.args.offer.now c.in_ok-network.network c.in_ok-starts.starts c.in-Some.ranges c.in_ok-list.list c.kept_range.result (grind arith) (grind arith)
     (grind (arith, c.in_ok-ranges.ensures, c.in-Some.is)) (grind (arith, c.in_ok-list.ensures)) (grind (arith, c.kept_range.ensures))

@@ -1,6 +1,0 @@
-use Rattle.std.proofs.Common.{◌≡◌, ◌++◌, take}
-use Rattle.dsv_gain.specs.Gains.{sample_symbols}
-use Rattle.dsv_gain.proofs.starts.push_sample_symbols.Given as goal
-
-abbrev pub invariant-loop-node : goal.invariant-loop-node
-invariant-loop-node l = l.ranges ≡ l.fn.ranges ++ sample_symbols l.input (take l.node-index l.nodes)

@@ -1,0 +1,4 @@
+pub mod Samples
+pub mod Gains
+pub mod Runs
+pub mod Laws
